@@ -12,6 +12,7 @@ ghost use Rattle.fm_edit.specs.declared.look.Key.{Key as KeyName};
 
 use crate::look::Look;
 use crate::record_cache::RecordCache;
+use fm_know::record_facts::attempt_in;
 use fm_lattice::join::OutOfMemory;
 use fm_policy::changed::Changed;
 use fm_records::ids::{JobId, MachineId, TaskId};
@@ -108,10 +109,7 @@ fn spot_at<L: Look>(look: &mut L, task: TaskId, attempt: u32) -> Result<Option<S
     ensures same { L.table look.new ≡ L.table look.old }
 {
     match look.winner(task, attempt)? {
-        Some(winner) => Ok(Some(Spot {
-            machine: winner.machine,
-            incarnation: winner.incarnation,
-        })),
+        Some(winner) => Ok(Some(winner.spot())),
         None => Ok(None),
     }
 }
@@ -132,7 +130,7 @@ fn see_spot<L: Look>(
     ensures same { L.table look.new ≡ L.table look.old }
 {
     let attempt = match tasks.get(&task) {
-        Some(known) => known.1.0.attempt,
+        Some(known) => attempt_in(known),
         None => 0,
     };
     match spot_at(look, task, attempt)? {

@@ -16,6 +16,7 @@ ghost use Rattle.fm_edit.specs.inner.TaskIndexParts.{ListsAtOne};
 
 use crate::record_cache::RecordCache;
 use crate::task_index::TaskIndex;
+use fm_know::record_facts::state_in;
 use fm_lattice::join::OutOfMemory;
 use fm_net::node::Node;
 use fm_policy::changed::Changed;
@@ -66,10 +67,8 @@ fn turns(seen: &RecordCache, machine: MachineId, now: &Option<MachineRec>) -> bo
 fn standing(known: &MachineRec) -> Option<u64>
     ensures { result ≡ standing_of known.now }
 {
-    match &known.1.0.0 {
-        Some(state) if state.0.up => Some(known.0),
-        _ => None,
-    }
+    let _open = state_in(known)?;
+    Some(known.0)
 }
 
 /// The tasks of a delta, those that are listed at a job of the delta, and those listed at a machine that turned, and

@@ -13,7 +13,7 @@ ghost use Rattle.fm_net.specs.declared.node.Node.{Node as NodeName};
 ghost use Rattle.fm_edit.specs.CacheModel.{sight_of, seen_in, cached_live, open_in, present_in, cached_holder};
 ghost use Rattle.fm_edit.specs.inner.CachedNodes.{IsSeenTask, cached_live_record, held_at, used_in};
 
-use fm_know::facts::is_done;
+use fm_know::record_facts::{is_done, is_open_at, spec_in, state_in, used_in};
 use fm_net::node::Node;
 use fm_records::ids::{JobId, MachineId, TaskId};
 use fm_records::prefer::Prefer;
@@ -163,13 +163,11 @@ impl RecordCache {
     fn live_of(&self, known: &TaskRec) -> Option<SpecReg>
         ensures { result ≡ cached_live_record (seen_in self.now) known.now }
     {
-        let Some(spec) = &known.0.0 else {
-            return None;
-        };
-        if spec.0.withdrawn || is_done(known.1.0.phase) || !self.job_stands(spec.0.job) {
+        let spec = spec_in(known)?;
+        if spec.withdrawn || is_done(known.1.0.phase) || !self.job_stands(spec.job) {
             return None;
         }
-        Some(spec.0)
+        Some(spec)
     }
 
     // The machine of the spot, if the task is live and the machine there to hold it.
@@ -186,11 +184,7 @@ impl RecordCache {
     pub(crate) fn open_state(&self, machine: MachineId) -> Option<MachineReg>
         ensures { result ≡ open_in (seen_in self.now) machine }
     {
-        let record = self.machines.get(&machine)?;
-        match &record.1.0.0 {
-            Some(state) if state.0.up => Some(state.0),
-            _ => None,
-        }
+        state_in(self.machines.get(&machine)?)
     }
 
     /// The use that the machine reported.
@@ -198,10 +192,7 @@ impl RecordCache {
         ensures { result ≡ used_in (seen_in self.now) machine }
     {
         match self.machines.get(&machine) {
-            Some(record) => match &record.1.1.0 {
-                Some(report) => report.0.used,
-                None => 0,
-            },
+            Some(record) => used_in(record),
             None => 0,
         }
     }
@@ -210,11 +201,8 @@ impl RecordCache {
     fn is_present(&self, spot: Spot) -> bool
         ensures { result ≡ present_in (seen_in self.now) spot }
     {
-        let Some(record) = self.machines.get(&spot.machine) else {
-            return false;
-        };
-        match &record.1.0.0 {
-            Some(state) => state.0.up && record.0 == spot.incarnation,
+        match self.machines.get(&spot.machine) {
+            Some(record) => is_open_at(record, spot.incarnation),
             None => false,
         }
     }

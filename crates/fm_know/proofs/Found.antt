@@ -9,7 +9,8 @@ use Rattle.fm_records.specs.Options.{and_then, only_if, or_else, passes}
 use Rattle.fm_records.specs.Know.{initial_progress}
 use Rattle.fm_records.specs.Table.{Table, TaskValue, MachineValue}
 use Rattle.fm_records.specs.Facts.{is_done, is_present, job_stands, live_spec, open_state, winner_of, holder_of}
-use Rattle.fm_know.specs.inner.Records.{live_in, holder_in, open_state_in}
+use Rattle.fm_know.specs.RecordFacts.{open_state_in}
+use Rattle.fm_know.specs.inner.Records.{live_in, holder_in}
 
 abbrev how_far : Option TaskValue → Progress
 how_far o = or_else initial_progress (option_map (λ v. v.1) o)

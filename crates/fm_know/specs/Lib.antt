@@ -4,3 +4,4 @@ pub mod KnowledgeEquality
 pub mod Mutators
 pub mod inner
 pub mod laws
+pub mod RecordFacts

@@ -8,13 +8,14 @@ ghost use Rattle.std.specs.Ordering.{nat_cmp};
 ghost use Rattle.fm_lattice.specs.Maps.{lookup};
 ghost use Rattle.fm_records.specs.Facts.{job_of, spec_of, progress_of, is_done, live_spec, is_live, job_stands, open_state, is_open, is_present, used_of, winner_of, won_spot, holder_of, held_tasks, holds, request_of, load_of, spare_of};
 ghost use Rattle.fm_know.specs.Winners.{as_winner};
-ghost use Rattle.fm_know.specs.inner.Records.{live_in, placed_in, holder_in, open_state_in};
+ghost use Rattle.fm_know.specs.inner.Records.{live_in, placed_in, holder_in};
 ghost use Rattle.fm_know.specs.Limits.{JobWithin, SpecWithin, StateWithin};
 
 use crate::knowledge::Knowledge;
+use crate::record_facts::{attempt_in, is_done, is_open_at, spare_left, request_in, spec_in, state_in, used_in};
 use fm_records::ids::{CoordId, JobId, MachineId, TaskId};
 use fm_records::ops::Phase;
-use fm_records::records::{JobReg, MachineRec, MachineReg, Progress, SpecReg, Spot, TaskRec};
+use fm_records::records::{JobReg, MachineReg, Progress, SpecReg, Spot, TaskRec};
 
 /// The entry that wins an attempt of a task: who proposed it, and where it would run.
 #[derive(Debug, Clone, Copy, PartialEq, Eq, Drop)]
@@ -22,6 +23,18 @@ pub struct Winner {
     pub coordinator: CoordId,
     pub machine: MachineId,
     pub incarnation: u64,
+}
+
+impl Winner {
+    /// Where the task would run.
+    pub fn spot(&self) -> Spot
+        ensures { result ≡ record { machine = self.now.machine; incarnation = self.now.incarnation } }
+    {
+        Spot {
+            machine: self.machine,
+            incarnation: self.incarnation,
+        }
+    }
 }
 
 impl Knowledge {
@@ -97,6 +110,16 @@ impl Knowledge {
         self.open_state(machine).is_some()
     }
 
+    /// Whether the machine of the spot is open, and the spot names its present incarnation. O(log n).
+    pub fn is_present(&self, spot: Spot) -> bool
+        ensures { result ≡ is_present self.now spot }
+    {
+        match self.machines.get(&spot.machine) {
+            Some(record) => is_open_at(record, spot.incarnation),
+            None => false,
+        }
+    }
+
     /// The entry that wins the attempt of the task: that of the least coordinator that has one.
     pub fn winner(&self, task: TaskId, attempt: u32) -> Option<Winner>
         ensures { result ≡ option_map as_winner (winner_of self.now task attempt) }
@@ -145,12 +168,8 @@ impl Knowledge {
     fn placed_in(&self, task: TaskId, found: &TaskRec) -> Option<MachineId>
         ensures { result ≡ placed_in self.now task found.now }
     {
-        let winner = self.winner(task, found.1.0.attempt)?;
-        let spot = Spot {
-            machine: winner.machine,
-            incarnation: winner.incarnation,
-        };
-        if self.is_present(spot) {
+        let winner = self.winner(task, attempt_in(found))?;
+        if self.is_present(winner.spot()) {
             Some(winner.machine)
         } else {
             None
@@ -175,22 +194,7 @@ impl Knowledge {
         ensures { result ≡ spare_of self.now machine }
     {
         let state = self.open_state(machine)?;
-        let load = self.load(machine);
-        if load <= u128::from(state.nic) {
-            Some(state.nic - load as u32)
-        } else {
-            None
-        }
-    }
-
-    // Whether the machine at the spot is open and at its present incarnation.
-    fn is_present(&self, spot: Spot) -> bool
-        ensures { result ≡ is_present self.now spot }
-    {
-        match self.machines.get(&spot.machine) {
-            Some(record) => state_in(record).is_some() && record.0 == spot.incarnation,
-            None => false,
-        }
+        spare_left(state.nic, self.load(machine))
     }
 
     // Whether the job is known and not withdrawn.
@@ -208,10 +212,7 @@ impl Knowledge {
         ensures { result ≡ used_of self.now machine }
     {
         match self.machines.get(&machine) {
-            Some(record) => match &record.1.1.0 {
-                Some(report) => report.0.used,
-                None => 0,
-            },
+            Some(record) => used_in(record),
             None => 0,
         }
     }
@@ -230,26 +231,6 @@ impl Knowledge {
     }
 }
 
-// The spec in the record, if it is known.
-fn spec_in(task: &TaskRec) -> Option<SpecReg>
-    ensures { result ≡ task.now.0 }
-{
-    match &task.0.0 {
-        Some(spec) => Some(spec.0),
-        None => None,
-    }
-}
-
-/// The bandwidth that the task of the record requests; 0 if its spec is not known.
-pub fn request_in(task: &TaskRec) -> u32
-    ensures { result ≡ request_of task.now.0 }
-{
-    match spec_in(task) {
-        Some(spec) => spec.request,
-        None => 0,
-    }
-}
-
 // The spec of the record, if the task is live.
 fn live_in(known: &Knowledge, task: &TaskRec) -> Option<SpecReg>
     ensures { result ≡ live_in known.now task.now }
@@ -259,24 +240,4 @@ fn live_in(known: &Knowledge, task: &TaskRec) -> Option<SpecReg>
         return None;
     }
     Some(spec)
-}
-
-// The state of the record, if the machine is open.
-fn state_in(machine: &MachineRec) -> Option<MachineReg>
-    ensures { result ≡ open_state_in machine.now }
-{
-    match &machine.1.0.0 {
-        Some(state) if state.0.up => Some(state.0),
-        _ => None,
-    }
-}
-
-/// Whether the phase is the last, that of a task that is done.
-pub fn is_done(phase: Phase) -> bool
-    ensures { result ≡ is_done phase }
-{
-    match phase {
-        Phase::Pending | Phase::Running => false,
-        Phase::Done => true,
-    }
 }

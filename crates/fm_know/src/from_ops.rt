@@ -3,13 +3,14 @@
 //! A delta is a state like any other, so one join serves for operations, packets and complete states (delta-state
 //! CRDTs: Almeida, Shoker and Baquero, 2018).
 
-ghost use Rattle.std.specs.Prelude.{◌≡◌, ◌<◌, ◌^◌, ◌∷◌, ◌++◌, [], List, None, IsTrue, is_none, IfOk, OnOk};
+ghost use Rattle.std.specs.Prelude.{◌≡◌, ◌∷◌, ◌++◌, [], List, None, IsTrue, is_none, IfOk, OnOk};
 ghost use Rattle.std.specs.List.{list_all};
 ghost use Rattle.fm_records.specs.Ops.{op_fault};
 ghost use Rattle.fm_records.specs.Know.{table_of};
 ghost use Rattle.fm_records.specs.Ranges.{CanBe, fields_fit};
 
 use crate::knowledge::Knowledge;
+use crate::laws::{law_u128, law_u32, law_u64};
 use fm_lattice::chain::Chain;
 use fm_lattice::constructors::{Both, Lex, Max, Min, Opt};
 use fm_lattice::join::{Join, OutOfMemory};
@@ -204,22 +205,4 @@ fn law_fits(op: &Op)
             law_u64(incarnation);
         }
     }
-}
-
-fn law_u32(number: u32)
-    ensures { number < 2 ^ 32 }
-{
-    let _ = number;
-}
-
-fn law_u64(number: u64)
-    ensures { number < 2 ^ 64 }
-{
-    let _ = number;
-}
-
-fn law_u128(number: u128)
-    ensures { number < 2 ^ 128 }
-{
-    let _ = number;
 }

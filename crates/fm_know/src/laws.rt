@@ -1,6 +1,6 @@
-//! Facts of every knowledge.
+//! Facts of every knowledge, and of every number.
 
-ghost use Rattle.std.specs.Prelude.{◌≡◌, List};
+ghost use Rattle.std.specs.Prelude.{◌≡◌, ◌<◌, ◌^◌, List};
 ghost use Rattle.fm_records.specs.declared.ops.Op.{Op};
 ghost use Rattle.fm_records.specs.Sets.{HaveSameMembers};
 ghost use Rattle.fm_records.specs.Know.{table_of};
@@ -31,4 +31,25 @@ pub fn law_same(left: &Knowledge, right: &Knowledge)
 {
     left.known();
     right.known();
+}
+
+/// A number fits its type, which a clause does not see by itself.
+pub fn law_u32(number: u32)
+    ensures { number < 2 ^ 32 }
+{
+    let _ = number;
+}
+
+/// A number fits its type, which a clause does not see by itself.
+pub fn law_u64(number: u64)
+    ensures { number < 2 ^ 64 }
+{
+    let _ = number;
+}
+
+/// A number fits its type, which a clause does not see by itself.
+pub fn law_u128(number: u128)
+    ensures { number < 2 ^ 128 }
+{
+    let _ = number;
 }

@@ -9,3 +9,4 @@ pub mod from_ops;
 pub mod knowledge;
 pub mod laws;
 pub mod mutators;
+pub mod record_facts;

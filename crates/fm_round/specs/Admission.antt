@@ -8,7 +8,7 @@ use Rattle.fm_records.specs.declared.ops.Op.TheVariants as op
 use Rattle.fm_records.specs.Table.{Table}
 use Rattle.fm_records.specs.Know.{table_of}
 use Rattle.fm_records.specs.Joined.{table_join}
-use Rattle.fm_records.specs.Facts.{passes, spec_of, request_of, attempt_of, incarnation_of, open_state, winner_of, is_live, is_open, holds, held_tasks, load_of, has_room}
+use Rattle.fm_records.specs.Facts.{passes, spec_of, request_of, attempt_of, incarnation_of, open_state, winner_of, is_live, is_present, holds, held_tasks, load_of, has_room}
 use Rattle.fm_net.specs.Network.{is_held}
 use Rattle.fm_round.specs.declared.plan.Place.{Place}
 use Rattle.fm_round.specs.declared.plan.Preempt.{Preempt}
@@ -44,7 +44,7 @@ has_incarnation k m i = passes (λ n. n == i) (incarnation_of k m)
 
 -- the machine is open, and its incarnation is i
 abbrev pub is_open_at : Table → ℕ → ℕ → Bool
-is_open_at k m i = is_open k m && has_incarnation k m i
+is_open_at k m i = is_present k (record { machine = m; incarnation = i })
 
 -- the operations of a place by coordinator c: a proposal for the present attempt if that has none, else the next
 -- attempt, pending, and a proposal for that

@@ -5,7 +5,7 @@
 //! machine gets more than it has left, whatever the plan says. What machines hold is counted once and kept as tasks
 //! come (`machine_holdings`).
 
-ghost use Rattle.std.specs.Prelude.{◌≡◌, ℕ, ◌<◌, ◌^◌, ◌∷◌, ◌++◌, ◌==◌, ◌&&◌, [], true, false, IsTrue, IfOk, IfSome, OnOk};
+ghost use Rattle.std.specs.Prelude.{◌≡◌, ℕ, ◌∷◌, ◌++◌, ◌==◌, ◌&&◌, [], true, false, IsTrue, IfOk, IfSome, OnOk};
 ghost use Rattle.fm_records.specs.declared.ops.Op.{Op as Operation};
 ghost use Rattle.fm_records.specs.declared.ops.Phase.TheVariants.{Pending as IsPending};
 ghost use Rattle.fm_records.specs.Ranges.{in_range, all_in_range};
@@ -24,6 +24,7 @@ use crate::machine_holdings::Holdings;
 use crate::plan::{Admitted, Answer, Place, Plan, Preempt};
 use crate::rules::{has_proposal, place_answer, preempt_answer, request_of};
 use fm_know::knowledge::Knowledge;
+use fm_know::laws::law_u64;
 use fm_lattice::join::{Join, OutOfMemory};
 use fm_records::ids::{CoordId, MachineId, TaskId};
 use fm_records::ops::{Op, Phase};
@@ -338,11 +339,4 @@ fn proposal(coordinator: CoordId, attempt: u32, place: &Place) -> Op
         machine: place.machine,
         incarnation: place.incarnation,
     }
-}
-
-// A number fits its type, which a clause does not see by itself.
-fn law_u64(number: u64)
-    ensures { number < 2 ^ 64 }
-{
-    let _ = number;
 }

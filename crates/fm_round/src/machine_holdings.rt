@@ -17,8 +17,8 @@ ghost use Rattle.fm_round.specs.inner.MachineHoldings.{is_counted, holding_of, r
 ghost use Rattle.fm_tally.specs.Tallies.{TallyIsFor};
 
 use crate::plan::Place;
-use fm_know::facts::request_in;
 use fm_know::knowledge::Knowledge;
+use fm_know::record_facts::{attempt_in, request_in};
 use fm_lattice::join::OutOfMemory;
 use fm_records::ids::{MachineId, TaskId};
 use fm_records::records::TaskRec;
@@ -179,10 +179,4 @@ fn held_by(tally: &Tally, machine: MachineId) -> Holding
         },
         None => NOTHING,
     }
-}
-
-fn attempt_in(task: &TaskRec) -> u32
-    ensures { result ≡ task.now.1.attempt }
-{
-    task.1.0.attempt
 }

@@ -6,6 +6,7 @@
 
 ghost use Rattle.std.specs.Prelude.{◌≡◌, ◌<◌, ◌≤◌, ◌+◌, ◌^◌, ◌==◌, ◌&&◌, ◌||◌, cond, not, true, false, option_map, IsTrue};
 ghost use Rattle.fm_records.specs.Facts.{is_live, live_spec, is_open, is_present, attempt_of, spec_of, request_of, holds, has_room, passes};
+ghost use Rattle.fm_records.specs.declared.ops.TheConstants.{MOST_BANDWIDTH};
 ghost use Rattle.fm_net.specs.Network.{is_held};
 ghost use Rattle.fm_round.specs.Admission.{told, last_attempt, has_proposal, has_incarnation, is_full, is_open_at, place_ops, place_answer, preempt_ops, preempt_answer};
 ghost use Rattle.fm_round.specs.inner.AdmissionSteps.{winner_with, as_pair, spot_of, is_spot_of};
@@ -13,7 +14,6 @@ ghost use Rattle.fm_round.specs.inner.MachineHoldings.{is_counted, AreCountedHol
 
 use crate::machine_holdings::Holdings;
 use crate::plan::{Answer, Place, Preempt};
-use crate::stops::has_incarnation;
 use fm_know::facts::Winner;
 use fm_know::knowledge::Knowledge;
 use fm_lattice::join::Join;
@@ -32,7 +32,7 @@ pub(crate) fn place_answer(
     requires counted { IsTrue (is_counted holdings.now place.now.machine) }
     ensures { result ≡ place_answer coordinator known.now place.now }
 {
-    if !known.is_live(place.task) || !is_open_at(known, place.machine, place.incarnation) {
+    if !known.is_live(place.task) || !known.is_present(spot_of(place)) {
         return Answer::Gone;
     }
     if is_held(known, place.task) {
@@ -74,13 +74,6 @@ pub(crate) fn preempt_answer(known: &Knowledge, preempt: &Preempt) -> Answer
     Answer::Accepted
 }
 
-// Whether the machine is open at the incarnation.
-fn is_open_at(known: &Knowledge, machine: MachineId, incarnation: u64) -> bool
-    ensures { result ≡ is_open_at known.now machine incarnation }
-{
-    known.is_open(machine) && has_incarnation(known, machine, incarnation)
-}
-
 // Whether some machine holds the task.
 fn is_held(known: &Knowledge, task: TaskId) -> bool
     ensures { result ≡ is_held known.now task }
@@ -107,7 +100,7 @@ fn is_spent(known: &Knowledge, task: TaskId) -> bool
 /// The request of the task; 0 if its spec is not known.
 pub(crate) fn request_of(known: &Knowledge, task: TaskId) -> u32
     ensures request { result ≡ request_of (spec_of known.now task) }
-    ensures within { result ≤ 1000000 }
+    ensures within { result ≤ MOST_BANDWIDTH }
 {
     match known.spec(task) {
         Some(spec) => spec.request,
@@ -196,10 +189,7 @@ fn spot_with(winner: Option<Winner>, coordinator: CoordId, proposed: Spot) -> Sp
     let Some(winner) = winner else {
         return proposed;
     };
-    let spot = Spot {
-        machine: winner.machine,
-        incarnation: winner.incarnation,
-    };
+    let spot = winner.spot();
     match coordinator.cmp(&winner.coordinator) {
         Ordering::Less => proposed,
         Ordering::Equal => spot.min(proposed),
@@ -227,7 +217,7 @@ fn would_stay(known: &Knowledge, preempt: &Preempt) -> bool
 {
     known.known();
     match known.winner(preempt.task, preempt.attempt + 1) {
-        Some(winner) => is_open_at(known, winner.machine, winner.incarnation),
+        Some(winner) => known.is_present(winner.spot()),
         None => false,
     }
 }

@@ -67,7 +67,7 @@ fn is_present_holding(knowledge: &Knowledge, at: (TaskId, u32), spot: Spot) -> b
 }
 
 // Whether the machine's incarnation is the one that is named.
-pub(crate) fn has_incarnation(knowledge: &Knowledge, machine: MachineId, incarnation: u64) -> bool
+fn has_incarnation(knowledge: &Knowledge, machine: MachineId, incarnation: u64) -> bool
     ensures { result ≡ has_incarnation knowledge.now machine incarnation }
 {
     match knowledge.machines().get(&machine) {

@@ -13,14 +13,14 @@ use Rattle.fm_records.specs.Options.{and_then, only_if, passes, or_else, when}
 use Rattle.fm_records.specs.Know.{initial_progress}
 use Rattle.fm_records.specs.Table.{Table, TaskValue, MachineValue}
 use Rattle.fm_records.specs.Facts.{is_done, job_of, job_stands, progress_of, is_present, winner_of, won_spot, holder_of, holds, request_of, held_tasks, open_state, load_of, used_of}
-use Rattle.fm_know.specs.inner.Records.{open_state_in}
+use Rattle.fm_know.specs.RecordFacts.{open_state_in, spare_left}
 use Rattle.fm_net.proofs.NetworkLaws.{came_from, mapped_from}
 use Rattle.fm_tally.specs.declared.holdings.Holdings.{Holdings}
 use Rattle.fm_tally.specs.declared.tally.LiveTask.{LiveTask}
 use Rattle.fm_tally.specs.declared.tally.OpenMachine.{OpenMachine}
 use Rattle.fm_tally.specs.inner.Holdings.{names_open_machine, placed_by, nothing_on, requests_in, tasks_in, AreHoldings}
 use Rattle.fm_tally.specs.Tallies.{has_any, unfinished_spec, task_at, open_machine_at}
-use Rattle.fm_tally.specs.inner.TallyParts.{live_task_of, task_by, requests_by, tasks_by, spare_left, open_by}
+use Rattle.fm_tally.specs.inner.TallyParts.{live_task_of, task_by, requests_by, tasks_by, open_by}
 use Rattle.fm_tally.specs.Unfinished.{unfinished_at}
 use Rattle.fm_tally.specs.declared.unfinished.UnfinishedTask.{UnfinishedTask}
 use Rattle.fm_tally.proofs.Held.{held_is}

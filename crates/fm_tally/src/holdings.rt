@@ -9,6 +9,7 @@ ghost use Rattle.fm_tally.specs.inner.Holdings.{requests_in, tasks_in, share_by,
 
 use crate::sorted::Sorted;
 use fm_know::knowledge::Knowledge;
+use fm_know::record_facts::state_in;
 use fm_lattice::join::OutOfMemory;
 use fm_records::ids::MachineId;
 use fm_records::records::{MachineRec, Spot};
@@ -85,12 +86,8 @@ impl Holdings {
 fn nothing_on(machine: &MachineRec) -> Holding
     ensures { result ≡ nothing_on machine.now }
 {
-    let is_open = match &machine.1.0.0 {
-        Some(state) => state.0.up,
-        None => false,
-    };
     Holding {
-        is_open,
+        is_open: state_in(machine).is_some(),
         incarnation: machine.0,
         requests: 0,
         tasks: 0,

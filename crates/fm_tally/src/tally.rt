@@ -10,10 +10,10 @@ ghost use Rattle.fm_lattice.specs.Maps.{lookup};
 ghost use Rattle.fm_records.specs.declared.records.Spot.{Spot as At};
 ghost use Rattle.fm_records.specs.Facts.{is_present};
 ghost use Rattle.fm_records.specs.Options.{and_then, or_else, only_if};
-ghost use Rattle.fm_know.specs.inner.Records.{open_state_in};
+ghost use Rattle.fm_know.specs.RecordFacts.{open_state_in};
 ghost use Rattle.fm_tally.specs.inner.Holdings.{requests_in, tasks_in, share_by, placed_by, names_open_machine, holding_nothing, nothing_on, AreHoldings};
 ghost use Rattle.fm_tally.specs.Tallies.{task_at, TallyIsFor};
-ghost use Rattle.fm_tally.specs.inner.TallyParts.{all_machines, spare_left, live_task_of, task_by, requests_by, tasks_by, open_by};
+ghost use Rattle.fm_tally.specs.inner.TallyParts.{all_machines, live_task_of, task_by, requests_by, tasks_by, open_by};
 ghost use Rattle.fm_tally.specs.Unfinished.{AreUnfinished};
 
 use crate::guide::{Guide, upper};
@@ -21,6 +21,7 @@ use crate::holdings::{Holding, Holdings};
 use crate::sorted::Sorted;
 use crate::unfinished::{UnfinishedTask, unfinished_of};
 use fm_know::knowledge::Knowledge;
+use fm_know::record_facts::{spare_left, state_in, used_in};
 use fm_lattice::join::{Join, OutOfMemory};
 use fm_records::ids::{JobId, MachineId, TaskId};
 use fm_records::records::{JobReg, MachineRec, Spot};
@@ -267,31 +268,13 @@ fn machines_of(
 fn open_machine(known: &MachineRec, holding: Holding) -> Option<OpenMachine>
     ensures { result ≡ open_by known.now holding.requests holding.tasks }
 {
-    let state = match &known.1.0.0 {
-        Some(state) if state.0.up => state.0,
-        _ => return None,
-    };
-    let used = match &known.1.1.0 {
-        Some(report) => report.0.used,
-        None => 0,
-    };
-    let load = u128::from(used).max(holding.requests);
+    let state = state_in(known)?;
+    let load = u128::from(used_in(known)).max(holding.requests);
     Some(OpenMachine {
         slots: state.slots,
         load,
-        spare: left_of(state.nic, load),
+        spare: spare_left(state.nic, load),
         held: holding.tasks,
         requests: holding.requests,
     })
-}
-
-// What the load leaves of the bandwidth; none if the load is greater.
-fn left_of(nic: u32, load: u128) -> Option<u32>
-    ensures { result ≡ spare_left nic load }
-{
-    if load <= u128::from(nic) {
-        Some(nic - load as u32)
-    } else {
-        None
-    }
 }

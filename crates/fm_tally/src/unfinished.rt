@@ -16,7 +16,7 @@ ghost use Rattle.fm_tally.specs.inner.Sides.{is_under, is_over};
 
 use crate::sorted::Sorted;
 use crate::winner_scan::Winners;
-use fm_know::facts::is_done;
+use fm_know::record_facts::{attempt_in, is_done};
 use fm_know::knowledge::Knowledge;
 use fm_lattice::join::OutOfMemory;
 use fm_records::ids::{JobId, TaskId};
@@ -130,10 +130,7 @@ fn won_spot(knowledge: &Knowledge, task: TaskId) -> Option<Spot>
 {
     let attempt = knowledge.attempt(task).attempt;
     let winner = knowledge.winner(task, attempt)?;
-    Some(Spot {
-        machine: winner.machine,
-        incarnation: winner.incarnation,
-    })
+    Some(winner.spot())
 }
 
 fn task_with(spec: &SpecReg, spot: Option<Spot>) -> UnfinishedTask
@@ -155,10 +152,4 @@ fn unfinished(known: &TaskRec) -> Option<&SpecReg>
         Some(spec) if !spec.0.withdrawn && !is_done(known.1.0.phase) => Some(&spec.0),
         _ => None,
     }
-}
-
-fn attempt_in(known: &TaskRec) -> u32
-    ensures { result ≡ known.now.1.attempt }
-{
-    known.1.0.attempt
 }

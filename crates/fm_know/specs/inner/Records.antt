@@ -1,9 +1,8 @@
 -- The facts on tasks and machines whose records are at hand.
 use Rattle.std.specs.Prelude.{ℕ, true, cond, not, ◌&&◌, Option, None, option_map}
 use Rattle.fm_records.specs.declared.records.SpecReg.{SpecReg}
-use Rattle.fm_records.specs.declared.records.MachineReg.{MachineReg}
 use Rattle.fm_records.specs.Options.{only_if, passes}
-use Rattle.fm_records.specs.Table.{Table, TaskValue, MachineValue}
+use Rattle.fm_records.specs.Table.{Table, TaskValue}
 use Rattle.fm_records.specs.Facts.{is_done, is_present, job_stands, winner_of}
 
 -- the spec of a live task
@@ -17,7 +16,3 @@ placed_in k t v = option_map (λ s. s.machine) (only_if (is_present k) (option_m
 -- the machine that holds the task
 abbrev pub holder_in : Table → ℕ → TaskValue → Option ℕ
 holder_in k t v = cond (passes (λ s. true) (live_in k v)) (placed_in k t v) None
-
--- the state of an open machine
-abbrev pub open_state_in : MachineValue → Option MachineReg
-open_state_in v = only_if (λ r. r.up) v.1.0

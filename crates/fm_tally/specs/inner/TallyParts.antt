@@ -1,22 +1,18 @@
 -- Parts of a tally, of records at hand.
-use Rattle.std.specs.Prelude.{ℕ, ◌-◌, true, cond, not, nat_le, List, Option, Some, None, option_map, max}
+use Rattle.std.specs.Prelude.{ℕ, true, cond, not, List, Option, Some, None, option_map, max}
 use Rattle.std.specs.List.{filter_map}
 use Rattle.std.specs.Ordering.{nat_cmp}
 use Rattle.fm_lattice.specs.Maps.{lookup}
 use Rattle.fm_records.specs.declared.records.JobReg.{JobReg}
-use Rattle.fm_records.specs.Options.{when, only_if, or_else, passes}
+use Rattle.fm_records.specs.Options.{only_if, or_else, passes}
 use Rattle.fm_records.specs.Sets.{with_value}
 use Rattle.fm_records.specs.Table.{Table, MachineValue}
-use Rattle.fm_know.specs.inner.Records.{open_state_in}
+use Rattle.fm_know.specs.RecordFacts.{open_state_in, spare_left}
 use Rattle.fm_tally.specs.inner.Holdings.{share_by}
 use Rattle.fm_tally.specs.declared.tally.LiveTask.{LiveTask}
 use Rattle.fm_tally.specs.declared.tally.OpenMachine.{OpenMachine}
 use Rattle.fm_tally.specs.declared.unfinished.UnfinishedTask.{UnfinishedTask}
 use Rattle.fm_tally.specs.Tallies.{open_machine_at}
-
--- what a load leaves of a bandwidth, none where the load is greater
-abbrev pub spare_left : ℕ → ℕ → Option ℕ
-spare_left nic load = when (nat_le load nic) (nic - load)
 
 -- the open machines, by id
 abbrev pub all_machines : Table → List (ℕ × OpenMachine)

@@ -23,7 +23,8 @@ returns-in-Some c =
     let k = c.args.known.now in
     let p = c.args.preempt.now in
     let live = live_spec_of k p.task c.requires.live in
-    c.is_open_at.ensures
+    c.is_present.ensures
+    ∙ ap (is_present k) c.spot.ensures
     ∙ sym (present_winner k (winner_of k p.task (p.attempt + 1)) c.in-Some.winner c.in-Some.ensures)
     ∙ sym (preempt_leaves k c.known.ensures.table p live.0 live.1 c.requires.present)
 
