@@ -13,7 +13,7 @@ use Rattle.fm_net.proofs.NetworkLaws.{came_from, mapped_from}
 use Rattle.fm_tally.specs.declared.tally.LiveTask.{LiveTask}
 use Rattle.fm_tally.specs.declared.tally.OpenMachine.{OpenMachine}
 use Rattle.fm_tally.specs.Tallies.{has_any, task_at, open_machine_at}
-use Rattle.fm_planner.specs.inner.Slackness.{fitting_tasks}
+use Rattle.fm_policy.specs.Rooms.{fitting_tasks}
 
 module _ (k : Table) where
   -- a live task of the tally

@@ -34,7 +34,8 @@ use Rattle.fm_planner.specs.declared.claim.Claim.{Claim}
 use Rattle.fm_planner.specs.declared.move_counts.Counts.{Counts}
 use Rattle.fm_planner.specs.inner.Claims.{rise_of, offer_of}
 use Rattle.fm_planner.specs.inner.Counts.{AreCounts}
-use Rattle.fm_planner.specs.inner.Slackness.{IsFairAtRest, IsFairTask, load_in, straight_cost, own_cost, IsNoCheaper, Leaves, Asks, GoesStraight, IsFairMove, IsFairOffer, IsFairMachine, Passes, fitting_tasks}
+use Rattle.fm_policy.specs.Rooms.{fitting_tasks}
+use Rattle.fm_planner.specs.inner.Slackness.{IsFairAtRest, IsFairTask, load_in, straight_cost, own_cost, IsNoCheaper, Leaves, Asks, GoesStraight, IsFairMove, IsFairOffer, IsFairMachine, Passes}
 use Rattle.fm_planner.proofs.Lists.{all_at, counted_member}
 use Rattle.fm_planner.proofs.Entries.{task_found, entry_of, in_tally, open_of, machine_found, open_in_tally, room_is, spare_left}
 use Rattle.fm_planner.proofs.Turns.{in_turn}

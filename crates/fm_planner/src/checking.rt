@@ -8,13 +8,15 @@
 ghost use Rattle.std.specs.Prelude.{◌≡◌, ◌≤◌, ◌<◌, ◌+◌, ◌↔◌, ℕ, None, IsTrue, IfOk, IfSome, OnOk};
 ghost use Rattle.std.specs.Ordering.{nat_cmp};
 ghost use Rattle.std.specs.BTreeMap.{get};
+ghost use Rattle.fm_policy.specs.Rooms.{fitting_tasks};
 ghost use Rattle.fm_planner.specs.inner.Claims.{rise_of, offer_of};
-ghost use Rattle.fm_planner.specs.inner.Slackness.{AllOf, IsFairTask, IsFairMove, IsFairMachine, IsFairOffer, IsTop, IsFairAtRest, IsPreferredFairly, IsNoCheaper, HasRoom, GoesStraight, own_cost, straight_cost, load_in, HasFairSlots, HasMoreRoom, Leaves, Asks, GoInTurn, IsNext, after_move, fitting_tasks, Passes};
+ghost use Rattle.fm_planner.specs.inner.Slackness.{AllOf, IsFairTask, IsFairMove, IsFairMachine, IsFairOffer, IsTop, IsFairAtRest, IsPreferredFairly, IsNoCheaper, HasRoom, GoesStraight, own_cost, straight_cost, load_in, HasFairSlots, HasMoreRoom, Leaves, Asks, GoInTurn, IsNext, after_move, Passes};
 
 use crate::claim::Claim;
 use crate::move_counts::Counts;
 use fm_know::knowledge::Knowledge;
 use fm_lattice::join::OutOfMemory;
+use fm_policy::room::fitting_tasks;
 use fm_records::ids::{JobId, MachineId, TaskId};
 use fm_records::prefer::Prefer;
 use fm_tally::tally::{LiveTask, OpenMachine, Tally};
@@ -320,7 +322,7 @@ fn asks(
     };
     let offer = claim.offer(request);
     request <= spare
-        && counts.pair(request, machine) <= u64::from(fits(state.slots, spare, request))
+        && counts.pair(request, machine) <= u64::from(fitting_tasks(state.slots, spare, request))
         && price <= offer
         && request <= live.price
         && offer <= u64::from(live.price - request)
@@ -334,17 +336,6 @@ fn price_of(rise: u64, state: &OpenMachine) -> Option<u64>
         return None;
     }
     Some(state.load as u64 + rise)
-}
-
-// How many tasks of the request fit into slots and spare.
-fn fits(slots: u32, spare: u32, request: u32) -> u32
-    ensures { result ≡ fitting_tasks slots spare request }
-{
-    if request == 0 {
-        slots
-    } else {
-        slots.min(spare / request)
-    }
 }
 
 // Whether each machine is fair.
@@ -475,7 +466,7 @@ fn has_more_room(counts: &Counts, machine: MachineId, state: &OpenMachine, reque
     let Some(spare) = state.spare else {
         return false;
     };
-    request <= spare && counts.pair(request, machine) < u64::from(fits(state.slots, spare, request))
+    request <= spare && counts.pair(request, machine) < u64::from(fitting_tasks(state.slots, spare, request))
 }
 
 // Whether, of each request, tasks of greater ids go to no lesser machines.

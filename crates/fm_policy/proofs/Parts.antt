@@ -82,3 +82,8 @@ module _ (k : Table) where
 
   pub task_to_job : (t : ℕ) (s : SpecReg) (job : JobReg) → live_spec k t ≡ Some s → job_of k s.job ≡ Some job → arc_of k (Task t) (Unscheduled s.job) ≡ Some (1, cond (is_held k t) job.preempt job.wait)
   task_to_job t s job e h = λ i. cond (live_of_job t s e i) (option_map (λ r. (1, cond (is_held k t) r.preempt r.wait)) (h i)) None
+
+  pub task_to_holder : (t m : ℕ) → holder_of k t ≡ Some m → arc_of k (Task t) (Machine m) ≡ Some (1, 0)
+  task_to_holder t m held =
+      ap (λ o. cond (passes (λ h. true) o) (when (passes (λ h. h == m) o) (1, 0)) (and_then (λ s. preferred_arc k s m) (live_spec k t))) held
+      ∙ ap (λ b. when b (1, 0)) (eq-eqb m m refl)

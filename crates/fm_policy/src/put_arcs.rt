@@ -186,10 +186,10 @@ fn put_holder(
         (HasHolder knowledge.now live.now.task live.now.spec.request live.now.holder network.new) }
 {
     match live.holder {
+        // whatever is known of the machine
         Some(machine) => {
-            let arc = from.machine_arc(&survey.machine(knowledge, machine));
             let to = Node::Machine(machine);
-            put(network, knowledge, Node::Task(live.task), to, arc)?;
+            put(network, knowledge, Node::Task(live.task), to, Some((1, 0)))?;
             Ok(())
         }
         None => put_waiting(network, knowledge, survey, live, from),

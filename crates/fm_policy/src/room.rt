@@ -6,7 +6,7 @@
 ghost use Rattle.std.specs.Prelude.{◌≡◌, ◌≤◌, ◌+◌, ◌-◌, IfSome};
 ghost use Rattle.fm_know.specs.Limits.{StateWithin};
 ghost use Rattle.fm_policy.specs.Building.{IsWithinArcs};
-ghost use Rattle.fm_policy.specs.Rooms.{room_of, spare_in, places_in, fit_in, RoomWithin};
+ghost use Rattle.fm_policy.specs.Rooms.{room_of, spare_in, fitting_tasks, fit_in, RoomWithin};
 
 use fm_records::records::MachineReg;
 
@@ -40,10 +40,12 @@ impl Room {
         ensures fit { result ≡ fit_in self.now request }
         ensures within { RoomWithin self.now → IfSome result IsWithinArcs }
     {
-        if request > self.spare() {
+        let spare = self.spare();
+        if request > spare {
             return None;
         }
-        Some((u64::from(self.places(request)), request + self.load))
+        let count = fitting_tasks(self.slots, spare, request);
+        Some((u64::from(count), request + self.load))
     }
 
     // What the load leaves of the bandwidth.
@@ -52,15 +54,15 @@ impl Room {
     {
         self.bandwidth.saturating_sub(self.load)
     }
+}
 
-    // How many tasks of the request fit into the slots and the spare bandwidth.
-    fn places(&self, request: u32) -> u32
-        ensures { result ≡ places_in self.now request }
-    {
-        if request == 0 {
-            self.slots
-        } else {
-            self.slots.min(self.spare() / request)
-        }
+/// How many tasks of the request fit into so many slots and so much spare bandwidth.
+pub fn fitting_tasks(slots: u32, spare: u32, request: u32) -> u32
+    ensures { result ≡ fitting_tasks slots spare request }
+{
+    if request == 0 {
+        slots
+    } else {
+        slots.min(spare / request)
     }
 }

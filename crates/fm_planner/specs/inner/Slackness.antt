@@ -1,5 +1,5 @@
 -- What the checks of a claim test, of each task, move and machine of a tally.
-use Rattle.std.specs.Prelude.{◌≡◌, ℕ, ◌+◌, ◌<◌, ◌≤◌, ◌/◌, ◌==◌, cond, List, [], ◌∷◌, Option, Some, None, option_map, min, ◌-◌, true}
+use Rattle.std.specs.Prelude.{◌≡◌, ℕ, ◌+◌, ◌<◌, ◌≤◌, cond, List, [], ◌∷◌, Option, Some, None, option_map, ◌-◌, true}
 use Rattle.std.specs.Ordering.{nat_cmp, is_eq}
 use Rattle.fm_lattice.specs.Maps.{lookup}
 use Rattle.fm_records.specs.declared.records.SpecReg.{SpecReg}
@@ -11,6 +11,7 @@ use Rattle.fm_tally.specs.declared.tally.OpenMachine.{OpenMachine}
 use Rattle.fm_tally.specs.declared.tally.Tally.{Tally}
 use Rattle.fm_tally.specs.declared.way.Way.{Way}
 use Rattle.fm_tally.specs.declared.way.Way.TheVariants.{ToJob, ByRequest, Straight}
+use Rattle.fm_policy.specs.Rooms.{fitting_tasks}
 use Rattle.fm_planner.specs.declared.claim.Claim.{Claim}
 use Rattle.fm_planner.specs.declared.move_counts.Counts.{Counts}
 use Rattle.fm_planner.specs.inner.Claims.{rise_of, offer_of}
@@ -60,10 +61,6 @@ IsPreferredFairly k tally claim t live = (s : SpecReg) → live_spec k t ≡ Som
 pub record IsFairTask (k : Table) (tally : Tally) (claim : Claim) (e : ℕ × LiveTask) : Type 0 where
   pub preferred : e.1.holder ≡ None → e.1.prefers ≡ true → IsPreferredFairly k tally claim e.0 e.1
   pub rests : lookup nat_cmp e.0 claim.moves ≡ None → IsFairAtRest claim e.1 e.1.holder
-
--- how many tasks of the request fit into slots and spare
-abbrev pub fitting_tasks : ℕ → ℕ → ℕ → ℕ
-fitting_tasks slots spare r = cond (r == 0) slots (min slots (spare / r))
 
 -- a held task that goes over its job costs no more to preempt than the rise of its machine
 pub record Leaves (tally : Tally) (claim : Claim) (t j : ℕ) : Type 0 where
