@@ -7,6 +7,7 @@ ghost use Rattle.std.specs.Prelude.{◌≡◌, [], IsTrue, IfOk};
 ghost use Rattle.fm_records.specs.Know.{table_of};
 ghost use Rattle.fm_edit.specs.inner.Keepers.{is_fresh_keeper, KeeperIsFor};
 ghost use Rattle.fm_coord.specs.States.{new_state};
+ghost use Rattle.fm_script.specs.CoordinatorLists.{is_listed};
 
 use fm_coord::coordinator::Coordinator;
 use fm_edit::deferred::Deferred;
@@ -42,4 +43,13 @@ fn keeper_at(alloc: Global, place: usize) -> Result<Keeper, OutOfMemory>
     } else {
         Ok(Keeper::Builds(Rebuilder::new(alloc)?))
     }
+}
+
+/// Whether the number is one of those listed. O(n).
+pub fn is_listed(listed: &[CoordId], number: u8) -> bool
+    ensures { result ≡ is_listed listed.now number }
+{
+    listed
+        .iter()
+        .any(|coordinator| coordinator.value() == number)
 }

@@ -9,10 +9,11 @@ ghost use Rattle.fm_records.specs.declared.ops.Field.{Field};
 ghost use Rattle.fm_records.specs.Ops.{op_fault};
 ghost use Rattle.fm_records.specs.Options.{when};
 ghost use Rattle.fm_script.specs.Json.{bind, id_at, text_at};
-ghost use Rattle.fm_script.specs.Script.{is_listed, phase_named};
+ghost use Rattle.fm_script.specs.Script.{phase_named};
 ghost use Rattle.fm_script.specs.ScriptFaults.{IsFirstFault, value_fault, first_at_fault, refused_of, step_form, act_form, cut_form, op_form, lacks, fields_of, first_lacking, step_refused, act_refused};
 ghost use Rattle.fm_script.specs.declared.script_fault.OpKind.TheVariants as kind;
 
+use crate::coordinators::is_listed;
 use crate::names::Names;
 use crate::parse_script::{
     coordinators_in, delivery_in, flag_in, is_object_of, items_in, keep_name, number_8_in,
@@ -347,13 +348,4 @@ fn field_in(refusal: Refusal) -> Option<StepFault>
         Refusal::BadOp(field) => Some(StepFault::OutOfRange(field)),
         _ => None,
     }
-}
-
-// Whether the number is one of those listed.
-fn is_listed(listed: &[CoordId], number: u8) -> bool
-    ensures { result ≡ is_listed listed.now number }
-{
-    listed
-        .iter()
-        .any(|coordinator| coordinator.value() == number)
 }

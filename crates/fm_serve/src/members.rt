@@ -4,7 +4,6 @@
 //! thread is started, and the first one at fault is named.
 
 ghost use Rattle.std.specs.Prelude.{◌≡◌, ◌++◌, None, Some, IfOk, IfErr, OnOk};
-ghost use Rattle.fm_script.specs.Script.{is_listed};
 ghost use Rattle.fm_serve.specs.Musters.{tell_fault, first_refused, told_at, members_of};
 
 use crate::counter::RoundCounter;
@@ -15,7 +14,7 @@ use fm_lattice::join::OutOfMemory;
 use fm_records::ids::CoordId;
 use fm_records::ops::Op;
 use fm_records::refusal::Refusal;
-use fm_script::coordinators::coordinator_at;
+use fm_script::coordinators::{coordinator_at, is_listed};
 use fm_script::script::Tell;
 use std::alloc::Global;
 use std::sync::atomic::AtomicU64;
@@ -46,16 +45,6 @@ fn check(listed: &[CoordId], tell: Tell) -> Result<(), Refusal>
         return Err(Refusal::NoCoordinator);
     }
     op.check()
-}
-
-// Whether a coordinator of the number is listed.
-fn is_listed(listed: &[CoordId], number: u8) -> bool
-    ensures { result ≡ is_listed listed.now number }
-{
-    match listed.split_first() {
-        None => false,
-        Some((first, rest)) => first.value() == number || is_listed(rest, number),
-    }
 }
 
 /// A member for each coordinator that is listed, with what it is to be told. Their rounds are counted.
