@@ -12,7 +12,9 @@ ghost use Rattle.fm_know.specs.inner.Records.{live_in, placed_in, holder_in};
 ghost use Rattle.fm_know.specs.Limits.{JobWithin, SpecWithin, StateWithin};
 
 use crate::knowledge::Knowledge;
-use crate::record_facts::{attempt_in, is_done, is_open_at, spare_left, request_in, spec_in, state_in, used_in};
+use crate::record_facts::{
+    attempt_in, is_done, is_open_at, request_in, spare_left, spec_in, state_in, used_in,
+};
 use fm_records::ids::{CoordId, JobId, MachineId, TaskId};
 use fm_records::ops::Phase;
 use fm_records::records::{JobReg, MachineReg, Progress, SpecReg, Spot, TaskRec};

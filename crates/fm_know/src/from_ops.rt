@@ -10,7 +10,7 @@ ghost use Rattle.fm_records.specs.Know.{table_of};
 ghost use Rattle.fm_records.specs.Ranges.{CanBe, fields_fit};
 
 use crate::knowledge::Knowledge;
-use crate::laws::{law_u128, law_u32, law_u64};
+use crate::laws::{law_u32, law_u64, law_u128};
 use fm_lattice::chain::Chain;
 use fm_lattice::constructors::{Both, Lex, Max, Min, Opt};
 use fm_lattice::join::{Join, OutOfMemory};

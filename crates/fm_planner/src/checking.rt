@@ -466,7 +466,8 @@ fn has_more_room(counts: &Counts, machine: MachineId, state: &OpenMachine, reque
     let Some(spare) = state.spare else {
         return false;
     };
-    request <= spare && counts.pair(request, machine) < u64::from(fitting_tasks(state.slots, spare, request))
+    request <= spare
+        && counts.pair(request, machine) < u64::from(fitting_tasks(state.slots, spare, request))
 }
 
 // Whether, of each request, tasks of greater ids go to no lesser machines.

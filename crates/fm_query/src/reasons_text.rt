@@ -4,8 +4,8 @@ ghost use Rattle.std.specs.Prelude.{◌≡◌, ◌++◌, ◌-◌, length, take, 
 ghost use Rattle.fm_query.specs.ReasonsText.{answer_line, bound_text, change_text, choice_text, choices_text, reason_cost_line, dearer_text, exact_text, example_head, example_text, goal_text, is_exact, is_first_exact, held_reason_text, at_least_text, listed_text, machines_text, not_live_text, not_live_cause, unknown_text, others_text, remedy_place_text, price_line, price_text, reasons_text, remedy_end, room_line, schedule_text, running_text, theory_line, waiting_text, IsReasonsText};
 
 use crate::text_lines::{LineText, write_lines};
-use fm_know::record_facts::is_done;
 use fm_know::knowledge::Knowledge;
+use fm_know::record_facts::is_done;
 use fm_net::node::Node;
 use fm_records::ids::{MachineId, TaskId};
 use fm_records::records::SpecReg;

@@ -20,8 +20,8 @@ ghost use Rattle.fm_coord.specs.States.{cut_packet};
 
 use fm_coord::coordinator::Coordinator;
 use fm_coord::entry::Range;
-use fm_know::record_facts::request_in;
 use fm_know::knowledge::Knowledge;
+use fm_know::record_facts::request_in;
 use fm_lattice::sorted_vec::get_hinted;
 use fm_policy::keeper::NetKeeper;
 use fm_records::ids::{MachineId, TaskId};

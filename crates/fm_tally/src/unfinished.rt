@@ -16,8 +16,8 @@ ghost use Rattle.fm_tally.specs.inner.Sides.{is_under, is_over};
 
 use crate::sorted::Sorted;
 use crate::winner_scan::Winners;
-use fm_know::record_facts::{attempt_in, is_done};
 use fm_know::knowledge::Knowledge;
+use fm_know::record_facts::{attempt_in, is_done};
 use fm_lattice::join::OutOfMemory;
 use fm_records::ids::{JobId, TaskId};
 use fm_records::records::{SpecReg, Spot, TaskRec};
