@@ -1,7 +1,7 @@
 #!/usr/bin/env python3
 """Reads and writes the files of a store as docs/store.md says, and knows nothing else of them: tests/stored.py
 
-Prints the file that the tests in crates/fm_tests_crdt/src/store.rt have as STORE, in rows as they stand there. The status is 1 if they have
+Prints the file that the tests in crates/fm_tests/src/crdt/store.rt have as STORE, in rows as they stand there. The status is 1 if they have
 another one. tests/salvaged.py reads and writes stores with this.
 """
 import hashlib
@@ -10,7 +10,7 @@ import re
 import sys
 
 ROOT = pathlib.Path(__file__).resolve().parent.parent
-TESTS = ROOT / "crates/fm_tests_crdt/src/store.rt"
+TESTS = ROOT / "crates/fm_tests/src/crdt/store.rt"
 MAGIC = b"FMSTORE1"
 # packet 3 of coordinator 1: job 1 at version 2 of writer 1, not withdrawn, wait 600, preempt 800; and packet 4 of no operations
 JOB = (b"FDG2" + bytes([1]) + (3).to_bytes(8, "big") + (1).to_bytes(8, "big") + (1).to_bytes(16, "big") + (2).to_bytes(8, "big")

@@ -1,0 +1,11 @@
+//! Tests of networks, of what builds, edits and writes them, of flows, and of plans.
+
+mod certificate;
+mod dimacs;
+mod edit;
+mod flow;
+mod following;
+mod net;
+mod networks;
+mod policy;
+mod round;
