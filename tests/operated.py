@@ -160,7 +160,9 @@ def one_bridge(program, *words, **streams):
     """A broker, and the process of a bridge with the number 1, whose streams are as given, else pipes."""
     with contextlib.ExitStack() as stack:
         broker = stack.enter_context(Broker(stack.enter_context(tempfile.TemporaryDirectory())))
-        command = [brokers.BRIDGE, "--cluster", "test", "--number", "1", "--broker", f"127.0.0.1:{broker.port}", *QUICK]
+        # a follower that is a script takes its time to begin if all processors are busy
+        command = [brokers.BRIDGE, "--cluster", "test", "--number", "1", "--broker", f"127.0.0.1:{broker.port}", *QUICK,
+                   "--connect-wait", str(brokers.PATIENCE)]
         given = {"stdin": subprocess.PIPE, "stdout": subprocess.PIPE, "stderr": subprocess.DEVNULL, **streams}
         run = subprocess.Popen([*command, "--program", program, *words], bufsize=0, **given)
         try:

@@ -101,7 +101,7 @@ def retained(program):
         yield "that nothing is kept is said", bool(until(lambda: bridge.has_said("unkept")))
         yield "what is relayed and not kept is not confirmed: %d answers" % bridge.count(), bridge.count() == 0
         proxy.keeps_nothing = False
-        yield "what is kept is confirmed", bridge.wait_for(5, 20)
+        yield "what is kept is confirmed", bridge.wait_for(5)
         with mqtt.Client(broker.port) as client:
             yield "and the broker keeps it", list(client.kept("fetohamu/test/state/1", 1)) == ["fetohamu/test/state/1"]
         proxy.keeps_nothing = True
@@ -113,7 +113,7 @@ def retained(program):
         bridge.write(b"".join(tell(1, op) for op in told[5:]))
         yield "what is told then is not confirmed", not bridge.wait_for(6, 3)
         proxy.keeps_nothing = False
-        yield "until it is kept", bridge.wait_for(len(told), 20) and bridge.end() == 0
+        yield "until it is kept", bridge.wait_for(len(told)) and bridge.end() == 0
 
 
 # states and their digests

@@ -57,10 +57,11 @@ source = none
 
 
 class Busy:
-    """Notes how much longer a short sleep and a little work took at most than if the processors are free."""
+    """Notes how much longer a short sleep and a little work took at most than if the processors are free, and how many processes waited for
+    each processor at most."""
 
     def __init__(self):
-        self.longest, self.is_over = 0.0, threading.Event()
+        self.longest, self.crowd, self.is_over = 0.0, 1.0, threading.Event()
         self.run = threading.Thread(target=self.look, daemon=True)
 
     def __enter__(self):
@@ -77,10 +78,11 @@ class Busy:
             time.sleep(0.2)
             sum(range(100000))
             self.longest = max(self.longest, time.monotonic() - began - 0.2)
+            self.crowd = max(self.crowd, os.getloadavg()[0] / len(os.sched_getaffinity(0)))
 
     def allows(self, took, most):
         """Whether something took no longer than it may."""
-        return took <= most + MORE + TIMES_MORE * self.longest
+        return took <= self.crowd * (most + MORE) + TIMES_MORE * self.longest
 
 
 class Adapter:
