@@ -3,7 +3,8 @@
 //! Most keys come in order. One after the last is found by one comparison and pushed, in amortised O(1). Any other is
 //! found by binary search, O(log n), and a new one moves the pairs after it, O(n).
 
-ghost use Rattle.std.specs.Prelude.{◌≡◌, ◌+◌, ◌≤◌, ◌<◌, None, IfOk, IfErr, OnOk, OnErr, vec_len, vec_capacity};
+ghost use Rattle.std.specs.Prelude.{◌≡◌, ◌+◌, ◌≤◌, ◌<◌, None, IfOk, IfErr, OnOk, OnErr, length, vec_len, vec_capacity};
+ghost use Rattle.std.specs.List.{insert};
 ghost use Rattle.std.specs.BTreeMap.{is_at};
 ghost use Rattle.std.specs.Map.{remove_entry};
 ghost use Rattle.fm_lattice.specs.Chains.{TellsApart};
@@ -79,10 +80,24 @@ pub fn insert<K: Ord + Copy, V: Copy>(
             Ok(Some(old))
         }
         Err(at) => {
-            pairs.insert(at, (key, value))?;
+            put_in(pairs, at, (key, value))?;
             Ok(None)
         }
     }
+}
+
+// Puts a pair at the place, and moves those after it. At the end, where most come, it is pushed, which costs less.
+fn put_in<T: Copy>(pairs: &mut Vec<T>, at: usize, pair: T) -> Result<(), OutOfMemory>
+    requires { at ≤ length pairs.old.items }
+    ensures ok { OnOk result (pairs.new.items ≡ insert pairs.old.items at pair) }
+    ensures err { OnErr result (pairs.new.items ≡ pairs.old.items) }
+{
+    if at == pairs.len() {
+        pairs.push(pair)?;
+    } else {
+        pairs.insert(at, pair)?;
+    }
+    Ok(())
 }
 
 // As `insert`, if there is room for a new key: nothing can fail. Chains tell their keys apart.

@@ -25,15 +25,15 @@ returns-in-Ok-clause-old g c =
     ap (λ p. Some p.1) c.index.ensures ∙ sym (lookup_at g.K.Ord.cmp g.met.K.Ord.total c.requires.exact es c.args.key c.in-Ok.at pair c.requires.rising at)
 
 -- the pair is added in the gap
-pub returns-in_ok-insert-in-Err-clause-ok : goal.returns-in_ok-insert-in-Err-clause-ok
-returns-in_ok-insert-in-Err-clause-ok g c =
+pub returns-in_ok-put_in-in-Err-clause-ok : goal.returns-in_ok-put_in-in-Err-clause-ok
+returns-in_ok-put_in-in-Err-clause-ok g c =
     let gap = rw c.deref.ensures.value at c.in-Err.ensures.absent in
-    c.in_ok-insert-in-Err.ensures.items ∙ sym (put_gap g.K.Ord.cmp g.met.K.Ord.total c.requires.exact keep_new c.args.pairs.now.items c.args.key c.args.value c.in-Err.at gap)
+    c.in_ok-put_in-in-Err.ensures.ok ∙ sym (put_gap g.K.Ord.cmp g.met.K.Ord.total c.requires.exact keep_new c.args.pairs.now.items c.args.key c.args.value c.in-Err.at gap)
 
-pub returns-in_ok-insert-in-Err-clause-rises : goal.returns-in_ok-insert-in-Err-clause-rises
-returns-in_ok-insert-in-Err-clause-rises g c = subst (IsRising g.K.Ord.cmp) (sym (returns-in_ok-insert-in-Err-clause-ok g c)) (rising_put g.K.Ord.cmp g.met.K.Ord.total c.requires.exact keep_new c.args.key c.args.value c.args.pairs.now.items c.requires.rising)
+pub returns-in_ok-put_in-in-Err-clause-rises : goal.returns-in_ok-put_in-in-Err-clause-rises
+returns-in_ok-put_in-in-Err-clause-rises g c = subst (IsRising g.K.Ord.cmp) (sym (returns-in_ok-put_in-in-Err-clause-ok g c)) (rising_put g.K.Ord.cmp g.met.K.Ord.total c.requires.exact keep_new c.args.key c.args.value c.args.pairs.now.items c.requires.rising)
 
-pub returns-in_ok-insert-in-Err-clause-old : goal.returns-in_ok-insert-in-Err-clause-old
-returns-in_ok-insert-in-Err-clause-old g c =
+pub returns-in_ok-put_in-in-Err-clause-old : goal.returns-in_ok-put_in-in-Err-clause-old
+returns-in_ok-put_in-in-Err-clause-old g c =
     let gap = rw c.deref.ensures.value at c.in-Err.ensures.absent in
     sym (lookup_gap g.K.Ord.cmp g.met.K.Ord.total c.requires.exact c.args.pairs.now.items c.args.key c.in-Err.at gap)
