@@ -392,7 +392,7 @@ def strangers(program):
 def limits(program):
     """A broker with a limit for messages, below the size of a state: it is said, and deltas are exchanged as before."""
     told = list(cluster(60))
-    limited, quick = ("allow_anonymous true", "message_size_limit 2000"), ["--ack-wait", "0.5", "--end-wait", "1"]
+    limited, quick = ("allow_anonymous true", "message_size_limit 2000"), ["--ack-wait", "1", "--end-wait", "2"]
     with running(program, [1, 2], *quick, lines=limited) as (_, bridges):
         yield "told", all([told_to(bridges, told[first:first + 20]) for first in range(0, len(told), 20) if not time.sleep(0.2)])
         yield "one graph", agree(bridges, told)

@@ -95,7 +95,7 @@ def retained(program):
         broker = stack.enter_context(Broker(stack.enter_context(tempfile.TemporaryDirectory())))
         proxy = stack.enter_context(mqtt.Proxy(broker.port))
         proxy.keeps_nothing = True
-        words = [*QUICK, "--ack-wait", "1", "--confirmed"]
+        words = [*QUICK, "--confirmed"]
         bridge = stack.enter_context(Bridge(proxy.port, 1, *words, program=program))
         bridge.write(b"".join(tell(1, op) for op in told[:5]))
         yield "that nothing is kept is said", bool(until(lambda: bridge.has_said("unkept")))
