@@ -1,7 +1,7 @@
 -- Edits of networks, and the least list of them that turns one network into another (this project's profile).
-use Rattle.fm_records.specs.declared.ops.TheConstants.{MOST_PRICE}
 use Rattle.std.specs.Prelude.{◌≡◌, ◌≤◌, ℕ, Bool, not, ◌==◌, ◌&&◌, List, [], ◌∷◌, ◌++◌, is_some, filter, map, take, IsTrue}
 use Rattle.fm_lattice.specs.Maps.{lookup}
+use Rattle.fm_records.specs.declared.ops.TheConstants.{MOST_PRICE}
 use Rattle.fm_records.specs.Options.{passes}
 use Rattle.fm_net.specs.declared.node.Node.{Node}
 use Rattle.fm_net.specs.declared.node.Node.TheVariants.{Sink}

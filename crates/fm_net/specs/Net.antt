@@ -1,9 +1,9 @@
 -- A network as its nodes and arcs, and how changes affect it. Firmament, Quincy; the limits are this project's profile.
-use Rattle.fm_records.specs.declared.ops.TheConstants.{MOST_PRICE}
 use Rattle.std.specs.Prelude.{◌≡◌, ℕ, ◌<◌, ◌≤◌, ◌^◌, ◌⊎◌, Bool, cond, List, [], ◌∷◌, Option, Some, IsTrue, IsSome}
 use Rattle.std.specs.List.{list_any}
 use Rattle.std.specs.Ordering.{is_eq}
 use Rattle.fm_lattice.specs.Maps.{lookup, put, keep_new, IsRising}
+use Rattle.fm_records.specs.declared.ops.TheConstants.{MOST_PRICE}
 use Rattle.fm_records.specs.Sets.{insert_once}
 use Rattle.fm_records.specs.Rising.{Rises}
 use Rattle.fm_net.specs.declared.node.Node.{Node}

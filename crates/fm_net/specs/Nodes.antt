@@ -1,9 +1,9 @@
 -- The names of nodes and their order. The kinds are those of Firmament's network-aware policy, with Quincy's
 -- unscheduled aggregators; the order is this project's profile.
-use Rattle.fm_records.specs.declared.ops.TheConstants.{MOST_BANDWIDTH}
 use Rattle.std.specs.Prelude.{ℕ, ◌<◌, ◌≤◌, ◌^◌}
 use Rattle.std.specs.Ordering.{nat_cmp, on, then_cmp}
 use Rattle.std.specs.declared.cmp.Ordering.{Ordering}
+use Rattle.fm_records.specs.declared.ops.TheConstants.{MOST_BANDWIDTH}
 use Rattle.fm_net.specs.declared.node.Node.{Node}
 use Rattle.fm_net.specs.declared.node.Node.TheVariants.{Sink, Unscheduled, Request, Machine, Task}
 use Rattle.fm_net.specs.contracts.node.NodeOrd.TheImpl as node_ord
