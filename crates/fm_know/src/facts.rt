@@ -3,9 +3,7 @@
 //! Records may arrive in any order, such as a task before its job. So no fact is stored: each is computed from the
 //! records when it is asked for, O(log n) for most. `load` and `spare` walk over all tasks.
 
-ghost use Rattle.std.specs.Prelude.{◌≡◌, Some, cond, option_map, sum_by, IfSome};
-ghost use Rattle.std.specs.Ordering.{nat_cmp};
-ghost use Rattle.fm_lattice.specs.Maps.{lookup};
+ghost use Rattle.std.specs.Prelude.{◌≡◌, cond, option_map, sum_by, IfSome};
 ghost use Rattle.fm_records.specs.Facts.{job_of, spec_of, progress_of, is_done, live_spec, is_live, job_stands, open_state, is_open, is_present, used_of, winner_of, won_spot, holder_of, held_tasks, holds, request_of, load_of, spare_of};
 ghost use Rattle.fm_know.specs.Winners.{as_winner};
 ghost use Rattle.fm_know.specs.inner.Records.{live_in, placed_in, holder_in};
@@ -144,16 +142,6 @@ impl Knowledge {
             Some(record) => self.holder_in(task, record),
             None => None,
         }
-    }
-
-    /// The spec of the task, if it is live, and the machine that holds it, if one does: `live_spec` and `holder` in
-    /// one, for callers that iterate over the tasks. The caller must pass the record that is known of the task.
-    pub fn live_task(&self, task: TaskId, found: &TaskRec) -> Option<(SpecReg, Option<MachineId>)>
-        requires { lookup nat_cmp task self.now.tasks ≡ Some found.now }
-        ensures { result ≡ option_map (λ s. (s, holder_of self.now task)) (live_spec self.now task) }
-    {
-        let spec = live_in(self, found)?;
-        Some((spec, self.placed_in(task, found)))
     }
 
     // The machine that holds the task with the record.

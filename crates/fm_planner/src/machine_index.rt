@@ -21,14 +21,8 @@ impl Numbers {
         alloc: Global,
         pairs: Vec<(MachineId, usize)>,
     ) -> Result<Numbers, OutOfMemory> {
-        let mut uppers = Vec::with_capacity(alloc, pairs.len())?;
-        for (machine, _) in &pairs {
-            uppers.push(upper(machine.value()))?;
-        }
-        Ok(Numbers {
-            pairs,
-            guide: Guide::of(alloc, uppers)?,
-        })
+        let guide = Guide::of_machines(alloc, &pairs)?;
+        Ok(Numbers { pairs, guide })
     }
 
     /// The place of the machine among the others by id, and its number.

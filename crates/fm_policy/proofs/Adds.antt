@@ -11,9 +11,6 @@ use Rattle.fm_net.specs.Net.{Net, has_node, arc_at, are_ends}
 use Rattle.fm_net.specs.Network.{is_node, arc_of}
 use Rattle.fm_policy.specs.inner.NetworkSoFar.{Stands, HasArcTo, Adds}
 
-pub adds_nothing : (k : Table) (net : Net) → Adds k net net
-adds_nothing k net = record { part = λ p. p; grows = record { nodes = λ n s. s; arcs = λ a b l. l } }
-
 pub adds_then : (k : Table) (x y z : Net) → Adds k x y → Adds k y z → Adds k x z
 adds_then k x y z p q = record {
   part = λ part. q.part (p.part part);

@@ -1,5 +1,5 @@
--- Which jobs have live tasks and which requests wait, by the tallies and the lists of a survey.
-use Rattle.std.proofs.Common.{◌≡◌, ◌∙◌, ℕ, ◌+◌, ◌≤◌, Bool, true, false, cond, List, [], ◌∷◌, Option, Some, None, refl, sym, ap, subst, inl, inr, arith, eq-eqb}
+-- Which jobs have live tasks and which requests wait, by a tally.
+use Rattle.std.proofs.Common.{◌≡◌, ◌∙◌, ℕ, ◌+◌, ◌≤◌, Bool, true, false, cond, List, [], ◌∷◌, Option, Some, None, ◌↔◌, refl, sym, ap, subst, inl, inr, arith, eq-eqb}
 use Rattle.std.specs.Prelude.{◌==◌, ◌&&◌, ◌||◌, not, count_by, option_map}
 use Rattle.std.specs.List.{list_any, filter_map, cons_option}
 use Rattle.std.specs.Ordering.{nat_cmp, is_eq}
@@ -9,18 +9,19 @@ use Rattle.std.proofs.lemmas.List.Sums.{sum_by-cons}
 use borrow.Author.Tests.{eqb-true}
 use Rattle.fm_lattice.specs.laws.ChainLaws.{nat_same}
 use Rattle.fm_records.specs.declared.records.SpecReg.{SpecReg}
-use Rattle.fm_records.specs.Options.{passes}
+use Rattle.fm_records.specs.Options.{and_then, passes}
 use Rattle.fm_records.specs.Sets.{IsMember, rising}
 use Rattle.fm_records.specs.Table.{Table, TaskValue}
-use Rattle.fm_records.specs.Facts.{live_spec, holder_of, spec_of, job_of}
+use Rattle.fm_records.specs.Facts.{live_spec, holder_of, job_of}
 use Rattle.fm_net.specs.declared.node.Node.TheVariants.{Unscheduled, Request}
-use Rattle.fm_net.specs.Network.{is_node, is_live_of, waits_for, live_tasks}
-use Rattle.fm_policy.specs.declared.live_task.LiveTask.{LiveTask}
-use Rattle.fm_policy.specs.inner.LiveTasks.{live_task, all_live, waiting_request}
-use Rattle.fm_net.proofs.NetworkLaws.{passes_some, only_if_some}
+use Rattle.fm_net.specs.Network.{is_node, is_held, is_live_of, waits_for, live_tasks}
+use Rattle.fm_tally.specs.declared.tally.LiveTask.{LiveTask}
+use Rattle.fm_tally.specs.Tallies.{task_at}
+use Rattle.fm_tally.proofs.Held.{live_job, entry_of}
+use Rattle.fm_tally.proofs.Rows.{rows}
+use Rattle.fm_policy.specs.inner.Inputs.{request_unless_held, waiting_request}
 use Rattle.fm_policy.proofs.Parts.{spec_tested}
-use Rattle.fm_policy.proofs.Finished.{some_found, and_left, and_right}
-use Rattle.fm_policy.proofs.Listed.{HasKey, listed}
+use Rattle.fm_policy.proofs.Finished.{some_found, and_left}
 use Rattle.fm_policy.proofs.Named.{has, has_rising}
 
 -- something passes the test if some are counted, and some are counted if something does
@@ -75,30 +76,30 @@ and_false : (b : Bool) → b && false ≡ false
 and_false true = refl
 and_false false = refl
 
-module _ (r : ℕ) where
-  waits_too : (live : Option SpecReg) (holder : Option ℕ) (t : ℕ) (xs : List LiveTask) (rest : Bool) → has
-      (filter_map waiting_request xs) r ≡ rest → has (filter_map waiting_request
-      (cons_option (option_map (λ s. record { task = t; spec = s; holder = holder }) live) xs)) r ≡
-      ((passes (λ s. s.request == r) live && not (passes (λ m. true) holder)) || rest)
-  waits_too None holder t xs rest e = e
-  waits_too (Some s) None t xs rest e = (λ i. same_request r s.request i || e i) ∙ sym (ap (λ b. b || rest) (and_true (s.request == r)))
-  waits_too (Some s) (Some m) t xs rest e = e ∙ sym (ap (λ b. b || rest) (and_false (s.request == r)))
+waits_too : (r request : ℕ) (holder : Option ℕ) (xs : List ℕ) (rest : Bool) → has xs r ≡ rest → has (cons_option (request_unless_held request holder) xs) r ≡ ((request == r && not (passes (λ m. true) holder)) || rest)
+waits_too r request None xs rest e = (λ i. same_request r request i || e i) ∙ sym (ap (λ b. b || rest) (and_true (request == r)))
+waits_too r request (Some m) xs rest e = e ∙ sym (ap (λ b. b || rest) (and_false (request == r)))
 
 module _ (k : Table) where
-  named_waits : (r : ℕ) (es : List (ℕ × TaskValue)) → has (filter_map waiting_request (filter_map (λ e. live_task k e.0) es)) r ≡ list_any (λ e. waits_for k r e.0) es
-  named_waits r [] = refl
-  named_waits r (e ∷ es) = waits_too r (live_spec k e.0) (holder_of k e.0) e.0 (filter_map (λ e. live_task k e.0) es) (list_any (λ e. waits_for k r e.0) es) (named_waits r es)
+  module _ (r : ℕ) where
+    one_waits : (t : ℕ) (later : List (ℕ × LiveTask)) (rest : Bool) → has (filter_map waiting_request later) r ≡ rest → (o : Option SpecReg) → live_spec k t ≡ o
+        → has (filter_map waiting_request (cons_option (option_map (λ (l : LiveTask). (t, l)) (and_then (λ (s : SpecReg). option_map (entry_of k t s) (job_of k s.job)) o)) later)) r
+        ≡ ((passes (λ (s : SpecReg). s.request == r) o && not (is_held k t)) || rest)
+    one_waits t later rest e None is = e
+    one_waits t later rest e (Some s) is =
+        ap (λ o. has (filter_map waiting_request (cons_option (option_map (λ (l : LiveTask). (t, l)) (option_map (entry_of k t s) o)) later)) r) (live_job k t s is).1
+        ∙ waits_too r s.request (holder_of k t) (filter_map waiting_request later) rest e
 
-  module _ (requests : List ℕ) (is : requests ≡ rising nat_cmp (filter_map waiting_request (all_live k))) where
-    named : (r : ℕ) → has requests r ≡ is_node k (Request r)
-    named r = ap (λ xs. has xs r) is ∙ has_rising (filter_map waiting_request (all_live k)) r ∙ named_waits r k.tasks
+    named_waits : (es : List (ℕ × TaskValue)) → has (filter_map waiting_request (rows (task_at k) es)) r ≡ list_any (λ e. waits_for k r e.0) es
+    named_waits [] = refl
+    named_waits (e ∷ es) = one_waits e.0 (rows (task_at k) es) (list_any (λ e. waits_for k r e.0) es) (named_waits es) (live_spec k e.0) refl
 
-    -- the requests listed are those that are nodes
-    pub listed_request : (r : ℕ) → IsMember r requests → is_node k (Request r) ≡ true
-    listed_request r m = sym (named r) ∙ member_has r requests m
-
-    pub request_listed : (r : ℕ) → is_node k (Request r) ≡ true → IsMember r requests
-    request_listed r h = has_member r requests (named r ∙ h)
+    -- the requests that tasks of a tally wait for are those that are nodes
+    pub requests_are : (tasks : List (ℕ × LiveTask)) → tasks ≡ rows (task_at k) k.tasks → (requests : List ℕ) → requests ≡ rising nat_cmp (filter_map waiting_request tasks)
+        → IsMember r requests ↔ (is_node k (Request r) ≡ true)
+    requests_are tasks rows_are requests is =
+        let named : has requests r ≡ is_node k (Request r) = ap (λ xs. has xs r) is ∙ has_rising (filter_map waiting_request tasks) r ∙ ap (λ xs. has (filter_map waiting_request xs) r) rows_are ∙ named_waits k.tasks in
+        ((λ m. sym named ∙ member_has r requests m), (λ h. has_member r requests (named ∙ h)))
 
   -- a request that is a node is that of a live task
   pub request_of_live : (r : ℕ) → is_node k (Request r) ≡ true → (t : ℕ) × (s : SpecReg) × (live_spec k t ≡ Some s) × (s.request ≡ r)
@@ -113,11 +114,3 @@ module _ (k : Table) where
 
   pub job_counts : (j : ℕ) → is_node k (Unscheduled j) ≡ true → 1 ≤ live_tasks k j
   job_counts j h = some_counted (λ e. is_live_of k j e.0) k.tasks h
-
-  pub job_listed : (j : ℕ) → is_node k (Unscheduled j) ≡ true → HasKey j k.jobs
-  job_listed j h =
-      let found = some_found (is_live_of k j) k.tasks h in
-      let live = spec_tested k (λ s. s.job == j) found.0 found.1 in
-      let tested = (only_if_some _ (spec_of k found.0) live.0 live.1).1 in
-      let stands = passes_some (λ r. not r.withdrawn) (job_of k live.0.job) (and_right _ _ (and_left _ _ tested)) in
-      subst (λ i. HasKey i k.jobs) (eqb-true live.0.job j live.2) (listed live.0.job k.jobs stands.0 stands.1)

@@ -1,26 +1,18 @@
 -- The nodes and arcs of a table's network, one by one.
-use Rattle.std.proofs.Common.{◌≡◌, ℕ, ◌-◌, Bool, true, false, cond, Option, Some, None, refl, sym, ◌∙◌, ap, eq-eqb}
+use Rattle.std.proofs.Common.{◌≡◌, ℕ, ◌-◌, Bool, true, false, cond, List, Option, Some, None, refl, sym, ◌∙◌, ap, eq-eqb}
 use Rattle.std.specs.Prelude.{◌==◌, ◌&&◌, not, option_map, is_some}
 use Rattle.std.specs.Ordering.{nat_cmp}
 use Rattle.fm_lattice.specs.Maps.{lookup}
 use Rattle.fm_records.specs.declared.records.JobReg.{JobReg}
 use Rattle.fm_records.specs.declared.records.SpecReg.{SpecReg}
 use Rattle.fm_records.specs.declared.records.MachineReg.{MachineReg}
-use Rattle.fm_records.specs.Options.{when, and_then, only_if, passes}
+use Rattle.fm_records.specs.Options.{when, and_then, passes}
 use Rattle.fm_records.specs.Table.{Table}
-use Rattle.fm_records.specs.Facts.{job_of, spec_of, live_spec, machine_state, open_state, is_open, holder_of, spare_of}
+use Rattle.fm_records.specs.Facts.{job_of, live_spec, open_state, is_open, holder_of, spare_of}
 use Rattle.fm_net.specs.declared.node.Node.TheVariants.{Sink, Unscheduled, Request, Machine, Task}
 use Rattle.fm_net.specs.Network.{is_node, is_held, is_live_of, waits_for, live_tasks, place_arc, room_arc, preferred_arc, arc_of}
-use Rattle.fm_policy.proofs.Listed.{HasKey, listed, some_listed}
-
--- what passes a test was there
-was_there : {A : Type 0} (test : A → Bool) (o : Option A) (a : A) → only_if test o ≡ Some a → o ≡ Some a
-was_there test None a e = absurd (let no : ⊥ = cc in no)
-was_there test (Some b) a e = elim (test b) as (λ t. cond t (Some b) None ≡ Some a → Some b ≡ Some a) [ true ↦ λ h. h | false ↦ λ h. absurd (let no : ⊥ = cc in no) ] e
-
-has_value : {V W : Type 0} (part : V → Option W) (o : Option V) (w : W) → and_then part o ≡ Some w → (v : V) × (o ≡ Some v)
-has_value part None w e = absurd (let no : ⊥ = cc in no)
-has_value part (Some v) w e = (v, refl)
+use Rattle.fm_net.proofs.NetworkLaws.{mapped_from}
+use Rattle.fm_policy.specs.inner.Inputs.{asked_of}
 
 both_there : {A B C : Type 0} (f : A → B → C) (o : Option A) (p : Option B) → is_some (and_then (λ a. option_map (f a) p) o) ≡ true → (is_some o ≡ true) × (is_some p ≡ true)
 both_there f None p h = absurd (let no : ⊥ = cc in no)
@@ -28,25 +20,15 @@ both_there f (Some a) None h = absurd (let no : ⊥ = cc in no)
 both_there f (Some a) (Some b) h = (refl, refl)
 
 module _ (k : Table) where
-  -- a live task and an open machine have records
-  pub live_listed : (t : ℕ) (s : SpecReg) → live_spec k t ≡ Some s → HasKey t k.tasks
-  live_listed t s e = let v = has_value (λ v. v.0) (lookup nat_cmp t k.tasks) s (was_there _ (spec_of k t) s e) in listed t k.tasks v.0 v.1
-
-  pub state_listed : (m : ℕ) (s : MachineReg) → open_state k m ≡ Some s → HasKey m k.machines
-  state_listed m s e = let v = has_value (λ v. v.1.0) (lookup nat_cmp m k.machines) s (was_there _ (machine_state k m) s e) in listed m k.machines v.0 v.1
-
   -- the spec of a task that is live by a test of its spec
   pub spec_tested : (test : SpecReg → Bool) (t : ℕ) → passes test (live_spec k t) ≡ true → (s : SpecReg) × (live_spec k t ≡ Some s) × (test s ≡ true)
   spec_tested test t h = elim (live_spec k t) as (λ o. passes test o ≡ true → (s : SpecReg) × (o ≡ Some s) × (test s ≡ true)) [ None ↦ λ no. absurd (let no2 : ⊥ = cc in no2) | Some s ↦ λ yes. (s, refl, yes) ] h
 
-  pub open_listed : (m : ℕ) → is_open k m ≡ true → HasKey m k.machines
-  open_listed m h = elim (open_state k m) as (λ o. open_state k m ≡ o → passes (λ r. true) o ≡ true → HasKey m k.machines) [ None ↦ λ _ no. absurd (let no2 : ⊥ = cc in no2) | Some s ↦ λ e _. state_listed m s e ] refl h
-
   -- a request leads into a machine only if some task waits for it and the machine is open
-  pub place_needs : (r m : ℕ) → is_some (arc_of k (Request r) (Machine m)) ≡ true → (is_node k (Request r) ≡ true) × HasKey m k.machines
+  pub place_needs : (r m : ℕ) → is_some (arc_of k (Request r) (Machine m)) ≡ true → (is_node k (Request r) ≡ true) × (is_open k m ≡ true)
   place_needs r m h =
-      elim (is_node k (Request r)) as (λ b. is_some (cond b (and_then (λ state. and_then (place_arc k r m state) (spare_of k m)) (open_state k m)) None) ≡ true → (b ≡ true) × HasKey m k.machines) [
-        | true ↦ λ yes. (refl, elim (open_state k m) as (λ o. open_state k m ≡ o → is_some (and_then (λ state. and_then (place_arc k r m state) (spare_of k m)) o) ≡ true → HasKey m k.machines) [ None ↦ λ _ no. absurd (let no2 : ⊥ = cc in no2) | Some s ↦ λ e _. state_listed m s e ] refl yes)
+      elim (is_node k (Request r)) as (λ b. is_some (cond b (and_then (λ state. and_then (place_arc k r m state) (spare_of k m)) (open_state k m)) None) ≡ true → (b ≡ true) × (is_open k m ≡ true)) [
+        | true ↦ λ yes. (refl, elim (open_state k m) as (λ o. is_some (and_then (λ state. and_then (place_arc k r m state) (spare_of k m)) o) ≡ true → passes (λ r. true) o ≡ true) [ None ↦ λ no. absurd (let no2 : ⊥ = cc in no2) | Some s ↦ λ _. refl ] yes)
         | false ↦ λ no. absurd (let no2 : ⊥ = cc in no2)
       ] h
 
@@ -58,12 +40,6 @@ module _ (k : Table) where
 
   pub waits_of : (t : ℕ) (s : SpecReg) → live_spec k t ≡ Some s → holder_of k t ≡ None → waits_for k s.request t ≡ true
   waits_of t s e h = (λ i. passes (λ r. r.request == s.request) (e i) && not (passes (λ m. true) (h i))) ∙ ap (λ b. b && true) (same s.request)
-
-  pub job_is_node : (j t : ℕ) → HasKey t k.tasks → is_live_of k j t ≡ true → is_node k (Unscheduled j) ≡ true
-  job_is_node j t h live = some_listed (is_live_of k j) t k.tasks h live
-
-  pub request_is_node : (t : ℕ) (s : SpecReg) → live_spec k t ≡ Some s → holder_of k t ≡ None → is_node k (Request s.request) ≡ true
-  request_is_node t s e h = some_listed (waits_for k s.request) t k.tasks (live_listed t s e) (waits_of t s e h)
 
   pub machine_to_sink : (m : ℕ) (s : MachineReg) → open_state k m ≡ Some s → arc_of k (Machine m) Sink ≡ Some (s.slots, 0)
   machine_to_sink m s e = ap (option_map (λ state. (state.slots, 0))) e
@@ -87,3 +63,12 @@ module _ (k : Table) where
   task_to_holder t m held =
       ap (λ o. cond (passes (λ h. true) o) (when (passes (λ h. h == m) o) (1, 0)) (and_then (λ s. preferred_arc k s m) (live_spec k t))) held
       ∙ ap (λ b. when b (1, 0)) (eq-eqb m m refl)
+
+  -- a task that is not held, to a machine, by what it asks for
+  pub task_to_preferred : (t m : ℕ) (asked : ℕ × List (ℕ × ℕ)) → option_map asked_of (live_spec k t) ≡ Some asked → holder_of k t ≡ None
+      → and_then (λ credit. option_map (λ (a : ℕ × ℕ). (1, a.1 - credit)) (room_arc k asked.0 m)) (lookup nat_cmp m asked.1) ≡ arc_of k (Task t) (Machine m)
+  task_to_preferred t m asked is free =
+      let spec = mapped_from asked_of (live_spec k t) asked is in
+      sym (
+      (λ i. cond (passes (λ n. true) (free i)) (when (passes (λ n. n == m) (free i)) (1, 0)) (and_then (λ s. preferred_arc k s m) (spec.1 i)))
+      ∙ ap (λ (x : ℕ × List (ℕ × ℕ)). and_then (λ credit. option_map (λ (a : ℕ × ℕ). (1, a.1 - credit)) (room_arc k x.0 m)) (lookup nat_cmp m x.1)) spec.2)

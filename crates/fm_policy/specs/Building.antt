@@ -1,6 +1,6 @@
 -- Steps towards the network of a table: nothing is put that is not the table's, and nothing is taken away.
-use Rattle.fm_records.specs.declared.ops.TheConstants.{MOST_BANDWIDTH, MOST_PRICE}
 use Rattle.std.specs.Prelude.{◌≤◌, ℕ, IsTrue}
+use Rattle.fm_records.specs.declared.ops.TheConstants.{MOST_BANDWIDTH, MOST_PRICE}
 use Rattle.fm_records.specs.Table.{Table}
 use Rattle.fm_net.specs.declared.node.Node.{Node}
 use Rattle.fm_net.specs.Net.{IsArcKind}

@@ -1,4 +1,2 @@
-pub mod Tallying
-pub mod LiveTasks
-pub mod Surveys
+pub mod Inputs
 pub mod NetworkSoFar

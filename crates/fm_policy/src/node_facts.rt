@@ -1,8 +1,8 @@
 //! What is known of single nodes, and the nodes and arcs that the network has by that alone.
 //!
-//! The rules of the policy are here once, for whoever can tell these facts from records of a cluster. The builder does
-//! so from what it looked up, an Editor from what it remembers. Each arc follows from the facts of its two ends, in
-//! O(1).
+//! These are the rules of the policy for whoever can tell such facts from records of a cluster, as an Editor does from what
+//! it remembers. Each arc follows from the facts of its two ends, in O(1). `build` has most of these facts in other form,
+//! in a tally.
 
 ghost use Rattle.std.specs.Prelude.{◌≡◌};
 ghost use Rattle.fm_policy.specs.NodeFacts.{node_of, is_there, fit_on, waiting_arc, request_machine_arc, preference_arc, machine_arc, job_arc, slots_arc, live_arc, arc_between};
@@ -106,8 +106,8 @@ impl NodeFacts {
 }
 
 impl JobFacts {
-    /// The arc of a job with live tasks, to the sink.
-    pub(crate) fn live_arc(&self) -> Option<(u64, u32)>
+    // The arc of a job with live tasks, to the sink.
+    fn live_arc(&self) -> Option<(u64, u32)>
         ensures { result ≡ live_arc self.now }
     {
         if self.live > 0 {
@@ -119,8 +119,8 @@ impl JobFacts {
 }
 
 impl RequestFacts {
-    /// The arc of a request for which a task waits, to a machine that has room for it.
-    pub(crate) fn place_arc(&self, machine: &MachineFacts) -> Option<(u64, u32)>
+    // The arc of a request for which a task waits, to a machine that has room for it.
+    fn place_arc(&self, machine: &MachineFacts) -> Option<(u64, u32)>
         ensures { result ≡ request_machine_arc self.now machine.now }
     {
         if !self.waits {
@@ -139,8 +139,8 @@ impl MachineFacts {
         Room::new(state, self.load)?.fit(request)
     }
 
-    /// The arc of an open machine, to the sink.
-    pub(crate) fn slots_arc(&self) -> Option<(u64, u32)>
+    // The arc of an open machine, to the sink.
+    fn slots_arc(&self) -> Option<(u64, u32)>
         ensures { result ≡ slots_arc self.now }
     {
         let state = self.state.as_ref()?;
@@ -149,8 +149,8 @@ impl MachineFacts {
 }
 
 impl TaskFacts {
-    /// The arc of a live task that no machine holds, to its request.
-    pub(crate) fn waiting_arc(&self, request: &RequestFacts) -> Option<(u64, u32)>
+    // The arc of a live task that no machine holds, to its request.
+    fn waiting_arc(&self, request: &RequestFacts) -> Option<(u64, u32)>
         ensures { result ≡ waiting_arc self.now request.now }
     {
         match &self.spec {
@@ -159,8 +159,8 @@ impl TaskFacts {
         }
     }
 
-    /// The arc of a task that is held, to the machine that holds it, and of one that is not, to a machine that it prefers.
-    pub(crate) fn machine_arc(&self, machine: &MachineFacts) -> Option<(u64, u32)>
+    // The arc of a task that is held, to the machine that holds it, and of one that is not, to a machine that it prefers.
+    fn machine_arc(&self, machine: &MachineFacts) -> Option<(u64, u32)>
         ensures { result ≡ machine_arc self.now machine.now }
     {
         match self.holder {
@@ -180,8 +180,8 @@ impl TaskFacts {
         Some((1, preferred_cost(cost, credit)))
     }
 
-    /// The arc of a live task, to its job.
-    pub(crate) fn job_arc(&self, job: &JobFacts) -> Option<(u64, u32)>
+    // The arc of a live task, to its job.
+    fn job_arc(&self, job: &JobFacts) -> Option<(u64, u32)>
         ensures { result ≡ job_arc self.now job.now }
     {
         let spec = self.spec.as_ref()?;

@@ -7,8 +7,10 @@ ghost use Rattle.std.specs.Prelude.{◌≡◌, ◌≤◌, ◌+◌, ◌-◌, IfSo
 ghost use Rattle.fm_know.specs.Limits.{StateWithin};
 ghost use Rattle.fm_policy.specs.Building.{IsWithinArcs};
 ghost use Rattle.fm_policy.specs.Rooms.{room_of, spare_in, fitting_tasks, fit_in, RoomWithin};
+ghost use Rattle.fm_policy.specs.inner.Inputs.{room_on, SpareFits};
 
 use fm_records::records::MachineReg;
+use fm_tally::tally::OpenMachine;
 
 /// An open machine whose load is within its bandwidth: what it has for tasks, and what they cost there.
 #[derive(Debug, Clone, Copy, Drop)]
@@ -31,6 +33,20 @@ impl Room {
             slots: state.slots,
             load: load as u32,
             bandwidth: state.nic,
+        })
+    }
+
+    /// The room on a machine of a tally; none if its load is greater than its bandwidth.
+    pub(crate) fn on(machine: &OpenMachine) -> Option<Room>
+        requires { SpareFits machine.now }
+        ensures { result ≡ room_on machine.now }
+    {
+        let spare = machine.spare?;
+        let load = machine.load as u32;
+        Some(Room {
+            slots: machine.slots,
+            load,
+            bandwidth: load + spare,
         })
     }
 

@@ -40,9 +40,9 @@ join_none : {V : Type 0} (o : Option V) → option_join keep_new o None ≡ o
 join_none None = refl
 join_none (Some w) = refl
 
--- the value at key k is replaced by g
-module _ {V : Type 0} (k : ℕ) (h g : V) (es : List (ℕ × V)) (rising : IsRising nat_cmp es) (there : lookup nat_cmp k es ≡ Some h) where
-  pub after : (m : ℕ) → lookup nat_cmp m (put nat_cmp keep_new k g es) ≡ cond (k == m) (Some g) (lookup nat_cmp m es)
+-- the value at key k is g
+module _ {V : Type 0} (k : ℕ) (g : V) (es : List (ℕ × V)) (rising : IsRising nat_cmp es) where
+  after : (m : ℕ) → lookup nat_cmp m (put nat_cmp keep_new k g es) ≡ cond (k == m) (Some g) (lookup nat_cmp m es)
   after m =
       lookup_put nat_cmp nat_cmp_total nat_same keep_new m k g es rising
       ∙ elim (k == m) as (λ b. (k == m) ≡ b → option_join keep_new (lookup nat_cmp m es) (cond (is_eq (nat_cmp m k)) (Some g) None) ≡ cond b (Some g) (lookup nat_cmp m es)) [
@@ -50,10 +50,12 @@ module _ {V : Type 0} (k : ℕ) (h g : V) (es : List (ℕ × V)) (rising : IsRis
         | false ↦ λ differ. ap (λ b. option_join keep_new (lookup nat_cmp m es) (cond b (Some g) None)) (apart k m differ) ∙ join_none (lookup nat_cmp m es)
       ] refl
 
+-- the value h at key k is replaced by g
+module _ {V : Type 0} (k : ℕ) (h g : V) (es : List (ℕ × V)) (rising : IsRising nat_cmp es) (there : lookup nat_cmp k es ≡ Some h) where
   -- a number of the values that grows by r
   pub grown : (f : V → ℕ) (r : ℕ) → f g ≡ f h + r → (m : ℕ) → or_else 0 (option_map f (lookup nat_cmp m (put nat_cmp keep_new k g es))) ≡ or_else 0 (option_map f (lookup nat_cmp m es)) + cond (k == m) r 0
   grown f r more m =
-      ap (λ o. or_else 0 (option_map f o)) (after m)
+      ap (λ o. or_else 0 (option_map f o)) (after k g es rising m)
       ∙ elim (k == m) as (λ b. (k == m) ≡ b → or_else 0 (option_map f (cond b (Some g) (lookup nat_cmp m es))) ≡ or_else 0 (option_map f (lookup nat_cmp m es)) + cond b r 0) [
         | true ↦ λ yes. more ∙ sym (ap (λ o. or_else 0 (option_map f o) + r) (subst (λ z. lookup nat_cmp z es ≡ Some h) (eqb-true k m yes) there))
         | false ↦ λ _. let same : or_else 0 (option_map f (lookup nat_cmp m es)) ≡ or_else 0 (option_map f (lookup nat_cmp m es)) + 0 = omega arith in same
@@ -62,8 +64,17 @@ module _ {V : Type 0} (k : ℕ) (h g : V) (es : List (ℕ × V)) (rising : IsRis
   -- a test that both pass alike
   pub tested : (test : V → Bool) → test g ≡ test h → (m : ℕ) → passes test (lookup nat_cmp m (put nat_cmp keep_new k g es)) ≡ passes test (lookup nat_cmp m es)
   tested test alike m =
-      ap (passes test) (after m)
+      ap (passes test) (after k g es rising m)
       ∙ elim (k == m) as (λ b. (k == m) ≡ b → passes test (cond b (Some g) (lookup nat_cmp m es)) ≡ passes test (lookup nat_cmp m es)) [
         | true ↦ λ yes. alike ∙ sym (ap (passes test) (subst (λ z. lookup nat_cmp z es ≡ Some h) (eqb-true k m yes) there))
         | false ↦ λ _. refl
       ] refl
+
+-- a count at key k that grows by one
+pub counted : (k n : ℕ) (es : List (ℕ × ℕ)) → IsRising nat_cmp es → or_else 0 (lookup nat_cmp k es) + 1 ≡ n → (m : ℕ) → or_else 0 (lookup nat_cmp m (put nat_cmp keep_new k n es)) ≡ or_else 0 (lookup nat_cmp m es) + cond (k == m) 1 0
+counted k n es rising more m =
+    ap (or_else 0) (after k n es rising m)
+    ∙ elim (k == m) as (λ b. (k == m) ≡ b → or_else 0 (cond b (Some n) (lookup nat_cmp m es)) ≡ or_else 0 (lookup nat_cmp m es) + cond b 1 0) [
+      | true ↦ λ yes. sym more ∙ ap (λ q. or_else 0 (lookup nat_cmp q es) + 1) (eqb-true k m yes)
+      | false ↦ λ _. let same : or_else 0 (lookup nat_cmp m es) ≡ or_else 0 (lookup nat_cmp m es) + 0 = omega arith in same
+    ] refl

@@ -12,14 +12,15 @@ use Rattle.fm_tally.specs.declared.tally.LiveTask.{LiveTask}
 use Rattle.fm_tally.specs.Tallies.{has_any, task_at}
 
 module _ (k : Table) where
-  live_job : (t : ℕ) (s : SpecReg) → live_spec k t ≡ Some s → (r : JobReg) × (job_of k s.job ≡ Some r)
+  -- the job of a live task is known
+  pub live_job : (t : ℕ) (s : SpecReg) → live_spec k t ≡ Some s → (r : JobReg) × (job_of k s.job ≡ Some r)
   live_job t s e =
       let h = (only_if_some _ (spec_of k t) s e).1 in
       let stand = (both_true _ _ (both_true _ _ h).0).1 in
       let r = passes_some (λ r. not r.withdrawn) (job_of k s.job) stand in
       (r.0, r.1)
 
-  abbrev entry_of : ℕ → SpecReg → JobReg → LiveTask
+  abbrev pub entry_of : ℕ → SpecReg → JobReg → LiveTask
   entry_of t s job = record { job = s.job; request = s.request; price = cond (is_held k t) job.preempt job.wait; holder = holder_of k t; prefers = has_any s.prefer }
 
   -- a tally's holder of a task is the machine that holds it

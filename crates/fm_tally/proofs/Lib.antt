@@ -1,6 +1,7 @@
 pub mod Rows
 pub mod Counting
 pub mod Held
+pub mod JobCounting
 pub mod Ahead
 pub mod Each
 pub mod Sides

@@ -1,5 +1,6 @@
 -- The rows that are found of the entries of a rising list, by their keys.
-use Rattle.std.proofs.Common.{◌≡◌, ◌∙◌, sym, ap, subst, refl, ℕ, cond, List, [], ◌∷◌, ◌++◌, Option, Some, None, option_map}
+use Rattle.std.proofs.Common.{◌≡◌, ◌∙◌, ◌+◌, ◌<◌, sym, ap, subst, refl, ℕ, cond, List, [], ◌∷◌, ◌++◌, Option, Some, None, option_map, length, get_or, take, drop}
+use Rattle.std.proofs.lemmas.List.{drop_more, take-append-drop}
 use Rattle.std.specs.List.{filter_map, cons_option}
 use Rattle.std.specs.Ordering.{nat_cmp, is_eq}
 use Rattle.std.specs.Cmp.{nat_cmp_total}
@@ -24,6 +25,14 @@ module _ {V : Type 0} where
   pub lookup_met : (xs ys : List (ℕ × V)) (e : ℕ × V) → IsRising nat_cmp (xs ++ e ∷ ys) → lookup nat_cmp e.0 (xs ++ e ∷ ys) ≡ Some e.1
   lookup_met [] ys e r = rw (tied_itself nat_cmp_total e.0) refl
   lookup_met (x ∷ xs) ys e r = rw (less_greater nat_cmp nat_cmp_total x.0 e.0 (below_met x.0 xs ys e r.0)) (lookup_met xs ys e r.1)
+
+  -- and so is what stands at a place
+  pub met_at : (es : List (ℕ × V)) (i : ℕ) (e : ℕ × V) → IsRising nat_cmp es → i < length es → e ≡ get_or es i e → lookup nat_cmp e.0 es ≡ Some e.1
+  met_at es i e r h is =
+      let later = drop (i + 1) es in
+      let left : drop i es ≡ e ∷ later = drop_more es i e h ∙ ap (λ x. x ∷ later) (sym is) in
+      let whole : es ≡ take i es ++ e ∷ later = sym (take-append-drop i es) ∙ ap (λ xs. take i es ++ xs) left in
+      subst (λ xs. lookup nat_cmp e.0 xs ≡ Some e.1) (sym whole) (lookup_met (take i es) later e (subst (IsRising nat_cmp) whole r))
 
   module _ {W : Type 0} (f : ℕ → Option W) where
     abbrev pub rows : List (ℕ × V) → List (ℕ × W)

@@ -1,4 +1,5 @@
 pub mod Tallies
 pub mod Unfinished
 pub mod WinnerScan
+pub mod JobCounts
 pub mod inner

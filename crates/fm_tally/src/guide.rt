@@ -5,6 +5,7 @@
 //! (Peterson, 1957) by a table. A guess may be wrong, so its user compares the id there, and searches if it is another.
 
 use fm_lattice::join::OutOfMemory;
+use fm_records::ids::{JobId, MachineId};
 use std::alloc::Global;
 
 /// Guesses the places of ids in a list of rising ids: interpolation search by a table. What lies between the least and the greatest
@@ -50,6 +51,30 @@ impl Guide {
         };
         guide.cut();
         Ok(guide)
+    }
+
+    /// For these jobs, whose ids must rise. O(n). Refused only if memory runs out.
+    pub(crate) fn of_jobs<V: Copy>(
+        alloc: Global,
+        jobs: &[(JobId, V)],
+    ) -> Result<Guide, OutOfMemory> {
+        let mut uppers = Vec::with_capacity(alloc, jobs.len())?;
+        for (job, _) in jobs {
+            uppers.push(upper(job.value()))?;
+        }
+        Guide::of(alloc, uppers)
+    }
+
+    /// For these machines, whose ids must rise. O(n). Refused only if memory runs out.
+    pub fn of_machines<V: Copy>(
+        alloc: Global,
+        machines: &[(MachineId, V)],
+    ) -> Result<Guide, OutOfMemory> {
+        let mut uppers = Vec::with_capacity(alloc, machines.len())?;
+        for (machine, _) in machines {
+            uppers.push(upper(machine.value()))?;
+        }
+        Guide::of(alloc, uppers)
     }
 
     // Finds the first id of each part.

@@ -3,6 +3,7 @@
 
 pub mod guide;
 mod holdings;
+pub mod job_counts;
 pub mod sorted;
 pub mod tally;
 pub mod unfinished;

@@ -53,7 +53,7 @@ impl<K: Chain, V: Copy> Sorted<K, V> {
     }
 
     /// As `get`, and looks at the index near before it searches: if the key is there, in one comparison.
-    pub(crate) fn get_near(&self, near: usize, key: &K) -> Option<V>
+    pub fn get_near(&self, near: usize, key: &K) -> Option<V>
         ensures { result ≡ lookup K.cmp key.now self.now }
     {
         get_hinted(&self.pairs, near, key)

@@ -146,28 +146,11 @@ impl Guides {
         jobs: &Sorted<JobId, JobReg>,
         holdings: &Holdings,
     ) -> Result<Guides, OutOfMemory> {
-        let of_machines = Guides::of_machines(alloc, holdings)?;
+        let machines = Guide::of_machines(alloc, holdings.by_machine.pairs())?;
         Ok(Guides {
-            jobs: Guides::of_jobs(alloc, jobs)?,
-            machines: of_machines,
+            jobs: Guide::of_jobs(alloc, jobs.pairs())?,
+            machines,
         })
-    }
-
-    fn of_jobs(alloc: Global, jobs: &Sorted<JobId, JobReg>) -> Result<Guide, OutOfMemory> {
-        let mut parts = Vec::with_capacity(alloc, jobs.pairs().len())?;
-        for (job, _) in jobs.pairs() {
-            parts.push(upper(job.value()))?;
-        }
-        Guide::of(alloc, parts)
-    }
-
-    fn of_machines(alloc: Global, holdings: &Holdings) -> Result<Guide, OutOfMemory> {
-        let machines = holdings.by_machine.pairs();
-        let mut parts = Vec::with_capacity(alloc, machines.len())?;
-        for (machine, _) in machines {
-            parts.push(upper(machine.value()))?;
-        }
-        Guide::of(alloc, parts)
     }
 
     fn near(&self, task: &UnfinishedTask) -> Near {

@@ -7,5 +7,5 @@ use Rattle.fm_policy.proofs.nodes.put_requests.Given as goal
 abbrev pub invariant-loop-request : goal.invariant-loop-request
 invariant-loop-request l = record {
   adds : Adds l.knowledge l.fn.network l.network;
-  all : (r : ℕ) → IsMember r (take l.request-index l.survey.requests.items) → Stands l.network (Request r);
+  all : (r : ℕ) → IsMember r (take l.request-index l.inputs.requests.items) → Stands l.network (Request r);
 }

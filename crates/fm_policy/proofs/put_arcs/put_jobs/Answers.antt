@@ -1,18 +1,36 @@
+use Rattle.std.proofs.Common.{◌∙◌, ◌≤◌, ap, add-one, subst, sym, rules}
+use Rattle.std.proofs.lemmas.List.{take_all}
+use Rattle.std.specs.Ordering.{nat_cmp}
+use Rattle.fm_lattice.specs.Maps.{lookup}
+use Rattle.fm_tally.proofs.Rows.{met_at}
 use Rattle.fm_policy.specs.inner.NetworkSoFar.{CoversJob}
 use Rattle.fm_policy.proofs.Adds.{adds_then}
-use Rattle.fm_policy.proofs.Listed.{one_more, all_done}
-use Rattle.fm_policy.proofs.Counted.{job_listed}
 use Rattle.fm_policy.proofs.Covered.{job_still}
+use Rattle.fm_records.specs.Options.{or_else}
+use Rattle.fm_policy.proofs.Counted.{job_counts}
+use Rattle.fm_policy.proofs.Listed.{HasKey, one_more, counted_listed}
 use Rattle.fm_policy.proofs.put_arcs.put_jobs.Goals as goal
 
-pub loop-job-preserved : goal.loop-job-preserved
-loop-job-preserved c =
+pub put_job-requires-clause-live : goal.put_job-requires-clause-live
+put_job-requires-clause-live c =
+    let j = c.entry-item.result.0 in
+    let met = met_at c.pairs-jobs.result.now c.loop-entry.entry-index c.entry-item.result c.pairs-jobs.ensures.rising c.loop-entry-test.true c.entry-item.is in
+    sym (ap (or_else 0) (ap (lookup nat_cmp j) (sym c.pairs-jobs.ensures.pairs) ∙ met)) ∙ c.requires.inputs.jobs j
+
+pub loop-entry-preserved : goal.loop-entry-preserved
+loop-entry-preserved c =
     let k = c.args.knowledge.now in
     let step = c.in_ok-put_job.ensures in
     record {
-      adds = adds_then k _ _ _ c.loop-job.invariant.adds step.adds;
-      covers = one_more (λ q. CoversJob k q c.loop-job.network) (λ q. CoversJob k q c.put_job.new.network) k.jobs c.loop-job.job-iterator c.next.new.self _ c.loop-job.invariant.covers c.in-Some.ensures.steps (job_still k _ _ step.adds.grows) step.covers;
+      adds = adds_then k _ _ _ c.loop-entry.invariant.adds step.adds;
+      covers = rw add-one (one_more (λ q. CoversJob k q c.loop-entry.network) (λ q. CoversJob k q c.put_job.new.network)
+          c.pairs-jobs.result.now c.loop-entry.entry-index c.entry-item.result c.loop-entry-test.true c.entry-item.is
+          (job_still k _ _ step.adds.grows) step.covers c.loop-entry.invariant.covers);
     }
 
 pub returns-clause-covers : goal.returns-clause-covers
-returns-clause-covers c = λ q is. let k = c.args.knowledge.now in all_done (λ q. CoversJob k q c.loop-job.network) k.jobs c.loop-job.job-iterator c.loop-job.invariant.covers c.in-None.ensures.steps.0 q (job_listed k q is) is
+returns-clause-covers c = λ j is.
+    let all = c.pairs-jobs.result.now in
+    let some = job_counts c.args.knowledge.now j is in
+    let key : HasKey j all = subst (HasKey j) (sym c.pairs-jobs.ensures.pairs) (counted_listed j c.args.inputs.now.jobs (subst (λ n. 1 ≤ n) (sym (c.requires.inputs.jobs j)) some)) in
+    c.loop-entry.invariant.covers j (subst (HasKey j) (sym (take_all c.loop-entry.entry-index all (search rules))) key) is

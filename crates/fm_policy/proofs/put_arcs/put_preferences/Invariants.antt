@@ -8,5 +8,5 @@ use Rattle.fm_policy.proofs.put_arcs.put_preferences.Given as goal
 abbrev pub invariant-loop-entry : goal.invariant-loop-entry
 invariant-loop-entry l = record {
   adds : Adds l.knowledge l.fn.network l.network;
-  covers : (m : ℕ) → is_some (lookup nat_cmp m (take l.entry-index l.live.spec.prefer)) ≡ true → CoversPreferred l.knowledge l.live.task m l.network;
+  covers : (m : ℕ) → is_some (lookup nat_cmp m (take l.entry-index l.prefer)) ≡ true → CoversPreferred l.knowledge l.task m l.network;
 }

@@ -1,41 +1,35 @@
-use Rattle.std.proofs.Common.{◌≡◌, ◌∙◌, Some, get_or, subst, sym, ap, add-one, inl, inr, rules}
+use Rattle.std.proofs.Common.{◌∙◌, ap, add-one, subst, sym, rules}
 use Rattle.std.proofs.lemmas.List.{take_all}
-use Rattle.fm_policy.specs.declared.live_task.LiveTask.{LiveTask}
+use Rattle.std.specs.Ordering.{nat_cmp}
+use Rattle.fm_lattice.specs.Maps.{lookup}
+use Rattle.fm_tally.proofs.Rows.{met_at}
 use Rattle.fm_policy.specs.inner.NetworkSoFar.{CoversTask}
-use Rattle.fm_policy.specs.inner.LiveTasks.{live_task}
 use Rattle.fm_policy.proofs.Adds.{adds_then}
-use Rattle.fm_policy.proofs.Alive.{task_named, found_live}
 use Rattle.fm_policy.proofs.Covered.{task_still}
-use Rattle.fm_policy.proofs.Parts.{live_listed}
-use Rattle.fm_policy.proofs.Surveyed.{AllFound, Names, names_take, found_at, all_found, names_found}
+use Rattle.fm_policy.proofs.Listed.{HasKey, listed, one_more}
+use Rattle.fm_policy.proofs.Tallied.{found_live}
 use Rattle.fm_policy.proofs.put_arcs.put_tasks.Goals as goal
 
 pub put_task-requires-clause-live : goal.put_task-requires-clause-live
 put_task-requires-clause-live c =
-    let k = c.args.knowledge.now in
-    let all = c.args.survey.now.live.items in
-    let each : AllFound (λ (x : LiveTask). x.task) (live_task k) all = subst (AllFound (λ (x : LiveTask). x.task) (live_task k)) (sym c.requires.survey.live) (all_found (λ (x : LiveTask). x.task) (live_task k) (task_named k) k.tasks) in
-    let found = found_at (λ (x : LiveTask). x.task) (live_task k) all c.loop-live.live-index c.live-item.result each (rw c.deref-live-items.ensures.value at c.loop-live-test.true) in
-    let is : get_or all c.loop-live.live-index c.live-item.result ≡ c.live-item.result = sym (rw c.deref-live-items.ensures.value at c.live-item.is) in
-    let here : live_task k c.live-item.result.task ≡ Some c.live-item.result = subst (λ (x : LiveTask). live_task k x.task ≡ Some x) is found in
-    here
+    let t = c.entry-item.result.0 in
+    let met = met_at c.pairs-tasks.result.now c.loop-entry.entry-index c.entry-item.result c.pairs-tasks.ensures.rising c.loop-entry-test.true c.entry-item.is in
+    sym (c.requires.inputs.tally.tasks t) ∙ ap (lookup nat_cmp t) (sym c.pairs-tasks.ensures.pairs) ∙ met
 
-pub loop-live-preserved : goal.loop-live-preserved
-loop-live-preserved c =
+pub loop-entry-preserved : goal.loop-entry-preserved
+loop-entry-preserved c =
     let k = c.args.knowledge.now in
     let step = c.in_ok-put_task.ensures in
     record {
-      adds = adds_then k _ _ _ c.loop-live.invariant.adds step.adds;
-      covers = λ t named spec live. elim (names_take (λ (x : LiveTask). x.task) t c.args.survey.now.live.items c.loop-live.live-index c.live-item.result (rw c.deref-live-items.ensures.value at c.loop-live-test.true) (rw add-one at named)) [
-        | inl before ↦ task_still k c.loop-live.network c.put_task.new.network step.adds.grows t (c.loop-live.invariant.covers t before) spec live
-        | inr is ↦ subst (λ q. CoversTask k q c.put_task.new.network) (ap (λ (x : LiveTask). x.task) (rw c.deref-live-items.ensures.value at c.live-item.is) ∙ is) step.covers spec live
-      ];
+      adds = adds_then k _ _ _ c.loop-entry.invariant.adds step.adds;
+      covers = rw add-one (one_more (λ q. CoversTask k q c.loop-entry.network) (λ q. CoversTask k q c.put_task.new.network)
+          c.pairs-tasks.result.now c.loop-entry.entry-index c.entry-item.result c.loop-entry-test.true c.entry-item.is
+          (task_still k _ _ step.adds.grows) step.covers c.loop-entry.invariant.covers);
     }
 
 pub returns-clause-covers : goal.returns-clause-covers
-returns-clause-covers c = λ t spec live.
-    let k = c.args.knowledge.now in
-    let all = c.args.survey.now.live.items in
-    let found = found_live k t spec live in
-    let named : Names (λ (x : LiveTask). x.task) t all = subst (Names (λ (x : LiveTask). x.task) t) (sym c.requires.survey.live) (names_found (λ (x : LiveTask). x.task) (live_task k) (task_named k) t found.0 k.tasks found.1 (live_listed k t spec live)) in
-    c.loop-live.invariant.covers t (subst (Names (λ (x : LiveTask). x.task) t) (sym (take_all c.loop-live.live-index all (search rules))) named) spec live
+returns-clause-covers c = λ t spec is.
+    let all = c.pairs-tasks.result.now in
+    let found = found_live c.args.knowledge.now t spec is in
+    let key : HasKey t all = listed t all found.0 (ap (lookup nat_cmp t) c.pairs-tasks.ensures.pairs ∙ c.requires.inputs.tally.tasks t ∙ found.1) in
+    c.loop-entry.invariant.covers t (subst (HasKey t) (sym (take_all c.loop-entry.entry-index all (search rules))) key) spec is

@@ -1,8 +1,8 @@
-use Rattle.std.proofs.Common.{◌≡◌, ◌+◌, ◌++◌, ◌∷◌, [], sym, ◌∙◌, ap, subst, append_assoc, append-nil, length, Some, ◌<◌, ◌^◌, option_map, drop, take, rules}
+use Rattle.std.proofs.Common.{◌≡◌, ◌+◌, ◌++◌, ◌∷◌, [], sym, ◌∙◌, ap, subst, append_assoc, append-nil, length, Some, ◌<◌, ◌^◌, option_map, drop, rules}
 use Rattle.std.specs.List.{cons_option}
 use Rattle.std.specs.Ordering.{nat_cmp}
 use Rattle.std.specs.Cmp.{nat_cmp_total}
-use Rattle.std.proofs.lemmas.List.{drop_more, drop_all, take-append-drop}
+use Rattle.std.proofs.lemmas.List.{drop_more, drop_all}
 use Rattle.fm_lattice.specs.laws.ChainLaws.{nat_same}
 use Rattle.fm_lattice.specs.Maps.{lookup, IsRising}
 use Rattle.fm_lattice.specs.laws.MapLaws.{same_map}
@@ -17,7 +17,7 @@ use Rattle.fm_tally.specs.inner.TallyParts.{task_by}
 use Rattle.fm_tally.specs.Unfinished.{unfinished_at}
 use Rattle.fm_tally.proofs.Counting.{IsCounting, counting_begins, counting_next, counting_ends, live_unfinished}
 use Rattle.fm_tally.proofs.Live.{there_is, no_requests, no_tasks, task_is, requests_are, tasks_are}
-use Rattle.fm_tally.proofs.Rows.{rows, rising_rows, lookup_rows, lookup_met}
+use Rattle.fm_tally.proofs.Rows.{rows, rising_rows, lookup_rows, met_at}
 use Rattle.fm_tally.proofs.tally.tasks_of.Goals as goal
 use Rattle.fm_tally.proofs.tally.tasks_of.Goals.{in-Some+in_ok-push, in_default}
 
@@ -54,8 +54,7 @@ loop-task-preserved c =
     let new = c.live_task.new.holdings in
     let told = c.live_task.ensures in
     let left : drop i all ≡ item ∷ rest = drop_more all i item c.loop-task-test.true ∙ ap (λ z. z ∷ rest) (sym c.loop-task-item.is) in
-    let whole : all ≡ take i all ++ item ∷ rest = sym (take-append-drop i all) ∙ ap (λ xs. take i all ++ xs) left in
-    let met = subst (λ xs. lookup nat_cmp t xs ≡ Some u) (sym whole) (lookup_met (take i all) rest item (subst (IsRising nat_cmp) whole c.pairs-pairs.ensures.rising)) in
+    let met = met_at all i item c.pairs-pairs.ensures.rising c.loop-task-test.true c.loop-task-item.is in
     let known : unfinished_at k t ≡ Some u = sym (c.requires.unfinished t) ∙ ap (lookup nat_cmp t) (sym c.pairs-pairs.ensures.pairs) ∙ met in
     let holder = and_then (placed_by old) u.spot in
     let made = told.live ∙ ap (λ js. task_by js holder u) c.in_ok-jobs.ensures in
