@@ -9,3 +9,4 @@ mod net;
 mod networks;
 mod policy;
 mod round;
+mod tally;
