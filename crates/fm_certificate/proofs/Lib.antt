@@ -11,4 +11,3 @@ pub mod Certified
 pub mod Dearer
 pub mod Priced
 pub mod Leaving
-pub mod Inserted

@@ -1,12 +1,16 @@
 -- Totals after a change at one node.
 use Rattle.std.proofs.Common.{◌≡◌, ◌≤◌, ◌∙◌, ap, sym, refl, ℕ, ◌+◌, ◌-◌, true, false, cond, Some, None, List, arith}
+use Rattle.std.specs.Prelude.{Bool, Option}
 use Rattle.std.specs.Ordering.{is_eq}
-use Rattle.fm_lattice.specs.laws.ChainLaws.{by_cases}
-use Rattle.fm_lattice.specs.Maps.{lookup}
+use Rattle.std.proofs.lemmas.Cmp.{tied_back}
+use Rattle.fm_lattice.specs.Joins.{option_join}
+use Rattle.fm_lattice.specs.laws.ChainLaws.{by_cases, less_greater, greater_less}
+use Rattle.fm_lattice.specs.Maps.{lookup, put, keep_new, IsRising}
+use Rattle.fm_lattice.specs.laws.MapLaws.{lookup_put}
 use Rattle.fm_records.specs.Options.{or_else}
 use Rattle.fm_net.specs.declared.node.Node.{Node}
 use Rattle.fm_net.specs.Nodes.{node_cmp}
-use Rattle.fm_net.specs.laws.NodeOrder.{node_exact}
+use Rattle.fm_net.specs.laws.NodeOrder.{node_exact, node_total}
 use Rattle.fm_net.specs.NetworkEquality.{same_node}
 use Rattle.fm_certificate.specs.Totals.{total_in}
 use Rattle.fm_certificate.proofs.Alike.{same_is}
@@ -14,6 +18,27 @@ use Rattle.fm_certificate.proofs.Alike.{same_is}
 -- the totals are as they were, and the total of one node is set
 abbrev pub IsSet : List (Node × ℕ) → List (Node × ℕ) → Node → ℕ → Type 0
 IsSet old new node total = (n : Node) → lookup node_cmp n new ≡ cond (is_eq (node_cmp node n)) (Some total) (lookup node_cmp n old)
+
+swapped : (a b : Node) → is_eq (node_cmp a b) ≡ is_eq (node_cmp b a)
+swapped a b =
+    by_cases (node_cmp a b) (λ o. node_cmp a b ≡ o → is_eq o ≡ is_eq (node_cmp b a))
+    (λ _ e. sym (ap is_eq (less_greater node_cmp node_total a b e)))
+    (λ _ e. sym (ap is_eq (tied_back node_total a b e)))
+    (λ _ e. sym (ap is_eq (greater_less node_cmp node_total a b e)))
+    refl
+
+replaced : (old : Option ℕ) (here : Bool) (total : ℕ) → option_join keep_new old (cond here (Some total) None) ≡ cond here (Some total) old
+replaced None true total = refl
+replaced None false total = refl
+replaced (Some n) true total = refl
+replaced (Some n) false total = refl
+
+-- a put in a list in order sets the total
+pub set_put : (old : List (Node × ℕ)) (node : Node) (total : ℕ) → IsRising node_cmp old → IsSet old (put node_cmp keep_new node total old) node total
+set_put old node total order n =
+    lookup_put node_cmp node_total node_exact keep_new n node total old order
+    ∙ replaced (lookup node_cmp n old) (is_eq (node_cmp n node)) total
+    ∙ ap (λ here. cond here (Some total) (lookup node_cmp n old)) (swapped n node)
 
 module _ (old new : List (Node × ℕ)) (node : Node) where
   pub set_is : (total : ℕ) → IsSet old new node total → (n : Node) → total_in new n ≡ cond (is_eq (node_cmp node n)) total (total_in old n)

@@ -9,7 +9,7 @@ use Rattle.fm_lattice.specs.Maps.{lookup, put, keep_new, IsRising, AreValues}
 use Rattle.fm_lattice.specs.laws.MapLaws.{lookup_below, below_trans, rising_put}
 use Rattle.fm_records.specs.Options.{or_else}
 use Rattle.fm_net.specs.declared.node.Node.{Node}
-use Rattle.fm_net.specs.Nodes.{ends_cmp}
+use Rattle.fm_net.specs.Nodes.{ends_cmp, node_cmp}
 use Rattle.fm_net.specs.laws.NodeOrder.{ends_exact, ends_total}
 use Rattle.fm_net.specs.NetworkEquality.{same_node}
 use Rattle.fm_certificate.specs.Totals.{Entry, target, units_at, total_in, IsTotalled}
@@ -79,12 +79,13 @@ units_part end k (e ∷ es) =
     (λ _. omega arith)
 
 -- a flow's totals after a put
-pub flow_put : (es : List Entry) (entering entering2 : List (Node × ℕ)) (k : Node × Node) (units old : ℕ) → IsTotalled es entering → units < 2 ^ 64 → old ≡ units_on k es
+pub flow_put : (es : List Entry) (entering entering2 : List (Node × ℕ)) (k : Node × Node) (units old : ℕ) → IsTotalled es entering → IsRising node_cmp entering2 → units < 2 ^ 64 → old ≡ units_on k es
     → ((n : Node) → total_in entering2 n + cond (same_node k.1 n) old 0 ≡ total_in entering n + cond (same_node k.1 n) units 0)
     → IsTotalled (with_units k units es) entering2
-flow_put es entering entering2 k units old flow u was came = record {
+flow_put es entering entering2 k units old flow order u was came = record {
   rises = rising_put ends_cmp ends_total ends_exact keep_new k units es flow.rises;
   fits = fits_put k units es u flow.fits;
+  in_order = order;
   enters = λ n. let change = rw was at came n in let before = flow.enters n in omega (arith, units_put target n k units es flow.rises);
 }
 

@@ -29,8 +29,9 @@ units_at end flow n = sum_by (λ e. cond (same_node (end e.0) n) e.1 0) flow
 abbrev pub total_in : List (Node × ℕ) → Node → ℕ
 total_in totals n = or_else 0 (lookup node_cmp n totals)
 
--- the units rise by their ends and fit, and the totals are what enters
+-- the units rise by their ends and fit, and the totals, in node order, are what enters
 pub record IsTotalled (flow : List Entry) (entering : List (Node × ℕ)) : Type 0 where
   pub rises : IsRising ends_cmp flow
   pub fits : AreValues (λ units. units < 2 ^ 64) flow
+  pub in_order : IsRising node_cmp entering
   pub enters : (n : Node) → total_in entering n ≡ units_at target flow n

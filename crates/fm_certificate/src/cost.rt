@@ -21,19 +21,20 @@ pub fn cost(network: &Network, flow: &Flow) -> u128
     network.known();
     let mut sum = 0;
     let mut near = 0usize;
-    for (from, to, _, cost) in network.arcs() {
-        sum += price(flow, near, from, to, cost);
+    for arc in network.arc_entries() {
+        sum += price(flow, near, arc);
         near = near.saturating_add(1);
     }
     sum
 }
 
-// The cost of the units on an arc of this cost, which are looked for near a place first.
-fn price(flow: &Flow, near: usize, from: Node, to: Node, cost: u32) -> u128
-    ensures { result ≡ cost * units_in flow.now from to }
+// The cost of the units on the arc, which are looked for near a place first.
+fn price(flow: &Flow, near: usize, arc: &((Node, Node), (u64, u32))) -> u128
+    ensures { result ≡ arc.now.1.1 * units_in flow.now arc.now.0.0 arc.now.0.1 }
 {
-    if cost == 0 {
+    let (ends, (_, cost)) = arc;
+    if *cost == 0 {
         return 0;
     }
-    u128::from(cost) * u128::from(flow.units_near(near, from, to).unwrap_or(0))
+    u128::from(*cost) * u128::from(flow.units_at(near, ends).unwrap_or(0))
 }

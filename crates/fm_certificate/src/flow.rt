@@ -10,13 +10,12 @@ ghost use Rattle.fm_net.specs.Nodes.{ends_cmp, node_cmp};
 ghost use Rattle.fm_certificate.specs.Totals.{source, target, units_at, IsTotalled};
 
 use crate::flow_iter::FlowIter;
-use crate::inflow::{change, make_room, total_of, totals_of};
+use crate::inflow::{change, make_room, total_of};
 use crate::outflow::sum_from;
 use fm_lattice::join::OutOfMemory;
 use fm_lattice::sorted_vec::{get, get_hinted, insert};
 use fm_net::node::Node;
 use std::alloc::Global;
-use std::collections::BTreeMap;
 use std::marker::Model;
 
 /// Units for arcs: a finite map from (from, to), as pairs in order of their keys, so that the arcs that leave a node
@@ -24,7 +23,7 @@ use std::marker::Model;
 #[derive(Debug, Drop)]
 pub struct Flow {
     units: Vec<((Node, Node), u64)>,
-    entering: BTreeMap<Node, u128>,
+    entering: Vec<(Node, u128)>,
 }
 
 impl Model for Flow {
@@ -35,7 +34,7 @@ impl Model for Flow {
 
     ghost view = { λ a. a.units.items };
 
-    ghost invariant = { λ a. IsTotalled a.units.items a.entering.entries };
+    ghost invariant = { λ a. IsTotalled a.units.items a.entering.items };
 }
 
 impl Flow {
@@ -45,29 +44,22 @@ impl Flow {
     {
         Flow {
             units: Vec::new(alloc),
-            entering: BTreeMap::new(alloc),
+            entering: Vec::new(alloc),
         }
     }
 
     /// The flow of these units, by the ends of their arcs, beside what enters the nodes that they lead to. The caller
-    /// must pass ends and nodes that rise, and that these totals are what enters. Refused only if memory runs out.
-    /// O(nodes): it does not walk the units.
-    pub fn of(
-        alloc: Global,
-        units: Vec<((Node, Node), u64)>,
-        entering: Vec<(Node, u128)>,
-    ) -> Result<Self, OutOfMemory>
-        requires totalled { IsTotalled units.items entering.items }
-        requires rises { IsRising node_cmp entering.items }
-        ensures { IfOk result (λ flow. flow ≡ units.items) }
+    /// must pass ends and nodes that rise, and totals that are what enters. O(1), and allocates nothing.
+    pub fn of(units: Vec<((Node, Node), u64)>, entering: Vec<(Node, u128)>) -> Self
+        requires { IsTotalled units.items entering.items }
+        ensures { result ≡ units.items }
     {
-        let entering = totals_of(alloc, entering)?;
-        Ok(Flow { units, entering })
+        Flow { units, entering }
     }
 
     /// Sets the units from one node to the other. If memory runs out, the flow is unchanged. Amortised O(1) for
-    /// no units on a key after the last, and O(log n) for units there or for a key that the flow has; before any other
-    /// new key the keys after it move, in O(n).
+    /// no units on a key after the last, and O(log n) for units there or for a key that the flow has. Before any other
+    /// new key the keys after it move, in O(n), and so do totals before the first units that enter a node.
     pub fn put(&mut self, from: Node, to: Node, units: u64) -> Result<(), OutOfMemory>
         ensures ok { OnOk result (self.new ≡ put ends_cmp keep_new (from, to) units self.old) }
         ensures err { OnErr result (self.new ≡ self.old) }
@@ -90,7 +82,14 @@ impl Flow {
     pub fn units_near(&self, near: usize, from: Node, to: Node) -> Option<u64>
         ensures { result ≡ lookup ends_cmp (from, to) self.now }
     {
-        get_hinted(&self.units, near, &(from, to))
+        self.units_at(near, &(from, to))
+    }
+
+    /// As `units_near`, by the ends of an arc as a network keeps them.
+    pub fn units_at(&self, near: usize, ends: &(Node, Node)) -> Option<u64>
+        ensures { result ≡ lookup ends_cmp ends.now self.now }
+    {
+        get_hinted(&self.units, near, ends)
     }
 
     /// The units, as (from, to, units), by (from, to).

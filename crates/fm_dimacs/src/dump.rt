@@ -1,30 +1,28 @@
 //! The text of a network: in DIMACS lines (1991), which other solvers read, and with one text for each network.
 //!
 //! Comments name the nodes, whose IDs are their places in node order. Arcs come in the network's order. So two networks
-//! are the same if their texts are. IDs are found near those of the line before, and by a search only if they are not
-//! there.
+//! are the same if their texts are.
 
 ghost use Rattle.std.specs.Prelude.{◌≡◌, ◌++◌, ◌∷◌, [], OnOk, OnErr, IfErr, IfSome, IsOkUnless, count_by, codes, decimal, length, string_bytes};
 ghost use Rattle.std.specs.List.{flat_map};
 ghost use Rattle.std.specs.Io.KnownBytes.{Appends};
 ghost use Rattle.fm_records.specs.Rising.{Rises};
 ghost use Rattle.fm_net.specs.Nodes.{node_cmp};
-ghost use Rattle.fm_net.specs.inner.NetworkIter.{arc_entry};
 ghost use Rattle.fm_dimacs.specs.Sending.{AppendsPrefix, StopsBy, IsSent};
 ghost use Rattle.fm_dimacs.specs.Text.{node_line, problem_line, is_task_node, demand_line, supply_line, arc_line, lines_from, id_in, dump_text};
 
 use crate::decimals::push_number;
+use crate::node_ids::{Ends, FoundIds};
 use crate::out::Out;
 use crate::write_all::put_all;
 use fm_lattice::join::OutOfMemory;
 use fm_net::network::Network;
-use fm_net::node::{Node, order};
+use fm_net::node::Node;
 use fm_records::refusal::Refusal;
 use std::alloc::Global;
-use std::cmp::Ordering;
 
 /// Writes the network's text. After a refusal a prefix of it is written: refused by the writer, which then has failed,
-/// in this call unless it had before; or because memory ran out. O(arcs log nodes).
+/// in this call unless it had before; or because memory ran out. O(arcs log nodes) at worst.
 pub fn dump<W: Out>(alloc: Global, network: &Network, out: &mut W) -> Result<(), Refusal>
     ensures ok { OnOk result (Appends (W.written out.old) (W.written out.new) (dump_text network.now)) }
     ensures ok_fails_not { OnOk result (W.has_failed out.new ≡ W.has_failed out.old) }
@@ -52,7 +50,7 @@ fn put_text<W: Out>(
     put_problem(network, nodes, &mut line, out)?;
     put_demand(nodes, &mut line, out)?;
     put_supplies(nodes, &mut line, out)?;
-    put_arcs(network, nodes, &mut line, out)
+    put_arcs(alloc, network, nodes, &mut line, out)
 }
 
 // Writes each node's comment.
@@ -202,6 +200,7 @@ pub(crate) fn write_supply(line: &mut String, id: usize, node: &Node) -> Result<
 
 // Writes the arcs.
 fn put_arcs<W: Out>(
+    alloc: Global,
     network: &Network,
     nodes: &[Node],
     line: &mut String,
@@ -211,42 +210,29 @@ fn put_arcs<W: Out>(
     ensures { IsSent result (W.written out.old) (W.written out.new) (W.has_failed out.old) (W.has_failed out.new)
         (flat_map (arc_line nodes.now) network.now.arcs) }
 {
-    let mut last = Ends {
-        source: 1,
-        target: 1,
-    };
-    for arc in network.arcs() {
-        put_arc(nodes, arc, &mut last, line, out)?;
+    let mut found = FoundIds::none(alloc, nodes.len())?;
+    for arc in network.arc_entries() {
+        put_arc(nodes, arc, &mut found, line, out)?;
     }
     Ok(())
 }
 
-// The IDs of an arc's ends.
-#[derive(Clone, Copy, Drop)]
-struct Ends {
-    source: usize,
-    target: usize,
-}
-
-// Writes an arc, given as (from, to, capacity, cost), and keeps the IDs of its ends, since those of the next arc are
-// mostly the same or next ones.
+// Writes an arc, by the IDs of its ends.
 fn put_arc<W: Out>(
     nodes: &[Node],
-    arc: (Node, Node, u64, u32),
-    last: &mut Ends,
+    arc: &((Node, Node), (u64, u32)),
+    found: &mut FoundIds,
     line: &mut String,
     out: &mut W,
 ) -> Result<(), Refusal>
     requires { Rises node_cmp nodes.now }
     ensures { IsSent result (W.written out.old) (W.written out.new) (W.has_failed out.old) (W.has_failed out.new)
-        (arc_line nodes.now (arc_entry arc)) }
+        (arc_line nodes.now arc.now) }
 {
-    let (from, to, capacity, cost) = arc;
-    let source = id_near(nodes, &from, last.source);
-    let target = id_near(nodes, &to, last.target);
-    *last = Ends { source, target };
+    let (ends, (capacity, cost)) = arc;
+    let ids = found.ends(nodes, ends);
     line.clear();
-    write_arc(line, last, capacity, cost)?;
+    write_arc(line, &ids, *capacity, *cost)?;
     put_all(out, line.as_bytes())
 }
 
@@ -263,40 +249,4 @@ fn write_arc(line: &mut String, ends: &Ends, capacity: u64, cost: u32) -> Result
     push_number(line, " ", cost as u64)?;
     line.push_str("\n")?;
     Ok(())
-}
-
-/// The node's ID, which is found at once if it is the ID or the next one. O(log n) else.
-pub(crate) fn id_near(nodes: &[Node], node: &Node, id: usize) -> usize
-    requires { Rises node_cmp nodes.now }
-    ensures { result ≡ id_in nodes.now node.now }
-{
-    if let Some(same) = id_at(nodes, node, id.saturating_sub(1)) {
-        return same;
-    }
-    if let Some(next) = id_at(nodes, node, id) {
-        return next;
-    }
-    id_of(nodes, node)
-}
-
-// The node's ID, if it is at the place.
-fn id_at(nodes: &[Node], node: &Node, place: usize) -> Option<usize>
-    requires { Rises node_cmp nodes.now }
-    ensures { IfSome result (λ id. id ≡ id_in nodes.now node.now) }
-{
-    match nodes.get(place) {
-        Some(there) if matches!(order(there, node), Ordering::Equal) => Some(place + 1),
-        _ => None,
-    }
-}
-
-// The node's ID: its place, counted from 1. O(log n).
-fn id_of(nodes: &[Node], node: &Node) -> usize
-    requires { Rises node_cmp nodes.now }
-    ensures { result ≡ id_in nodes.now node.now }
-{
-    match nodes.binary_search(node) {
-        Ok(at) => at + 1,
-        Err(_) => 0,
-    }
 }

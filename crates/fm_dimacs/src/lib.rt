@@ -5,6 +5,7 @@ mod arc_lines;
 mod decimals;
 pub mod dump;
 pub mod laws;
+mod node_ids;
 pub mod out;
 pub mod read;
 pub mod solution;

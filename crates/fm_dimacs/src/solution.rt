@@ -1,21 +1,19 @@
 //! The text of a flow: its cost, and a line for each arc with units, by the IDs of the network's text.
 //!
-//! Units and IDs are looked for near those of the arc before first, so that a flow of the network is written in
-//! O(arcs).
+//! Units are looked for at the arc's own place first, so that a flow of the network is written in O(arcs).
 
 ghost use Rattle.std.specs.Prelude.{◌≡◌, ◌++◌, IfOk, OnOk, OnErr, IfErr, IsOkUnless, string_bytes};
 ghost use Rattle.std.specs.List.{flat_map};
 ghost use Rattle.std.specs.Io.KnownBytes.{Appends};
 ghost use Rattle.fm_records.specs.Rising.{Rises};
 ghost use Rattle.fm_net.specs.Nodes.{node_cmp};
-ghost use Rattle.fm_net.specs.inner.NetworkIter.{arc_entry};
 ghost use Rattle.fm_certificate.specs.PolicyNetwork.{IsBuilt};
 ghost use Rattle.fm_certificate.specs.Flows.{units_in, IsFeasible};
 ghost use Rattle.fm_dimacs.specs.Sending.{AppendsPrefix, StopsBy, IsSent};
 ghost use Rattle.fm_dimacs.specs.Solution.{cost_line, units_line, flow_line, solution_text};
 
 use crate::decimals::push_number;
-use crate::dump::id_near;
+use crate::node_ids::FoundIds;
 use crate::out::Out;
 use crate::write_all::put_all;
 use fm_certificate::cost::cost;
@@ -27,8 +25,8 @@ use fm_records::refusal::Refusal;
 use std::alloc::Global;
 
 /// Writes the flow's text, with the IDs of the network's text. The caller must pass a network that the policy can
-/// build, and a feasible flow. A refusal is as `dump`'s. O(arcs) if the flow's keys are exactly the arcs and for units
-/// between nodes beside those of the arc before, and O(log arcs) for each other.
+/// build, and a feasible flow. A refusal is as `dump`'s. O(arcs) if the flow's keys are exactly the arcs, and O(log arcs)
+/// for each other key and for each end that is not found where it is guessed.
 pub fn write_solution<W: Out>(
     alloc: Global,
     network: &Network,
@@ -73,7 +71,7 @@ fn put_text<W: Out>(
     let total = cost(network, flow);
     let mut line = String::new(alloc);
     put_cost(total, &mut line, out)?;
-    put_flow(network, flow, nodes, &mut line, out)
+    put_flow(alloc, network, flow, nodes, &mut line, out)
 }
 
 // Writes what the flow costs.
@@ -88,6 +86,7 @@ fn put_cost<W: Out>(total: u128, line: &mut String, out: &mut W) -> Result<(), R
 
 // Writes the units of each arc.
 fn put_flow<W: Out>(
+    alloc: Global,
     network: &Network,
     flow: &Flow,
     nodes: &[Node],
@@ -100,68 +99,61 @@ fn put_flow<W: Out>(
 {
     let mut near = Near {
         place: 0,
-        source: 1,
-        target: 1,
+        found: FoundIds::none(alloc, nodes.len())?,
     };
-    for arc in network.arcs() {
+    for arc in network.arc_entries() {
         put_units(flow, nodes, arc, &mut near, line, out)?;
     }
     Ok(())
 }
 
-// Where an arc's units and the IDs of its ends are most often found: its place among the arcs, and the IDs that were
-// written last.
-#[derive(Clone, Copy, Drop)]
+// Where an arc's units and the IDs of its ends are most often found: its place among the arcs, and what was found before.
+#[derive(Drop)]
 struct Near {
     place: usize,
-    source: usize,
-    target: usize,
+    found: FoundIds,
 }
 
-// Writes the units of an arc, given as (from, to, capacity, cost), if it has any. Whatever is near, it writes the same.
+// Writes the units of an arc, if it has any. Whatever is near, it writes the same.
 fn put_units<W: Out>(
     flow: &Flow,
     nodes: &[Node],
-    arc: (Node, Node, u64, u32),
+    arc: &((Node, Node), (u64, u32)),
     near: &mut Near,
     line: &mut String,
     out: &mut W,
 ) -> Result<(), Refusal>
     requires { Rises node_cmp nodes.now }
     ensures { IsSent result (W.written out.old) (W.written out.new) (W.has_failed out.old) (W.has_failed out.new)
-        (flow_line nodes.now (units_in flow.now) (arc_entry arc)) }
+        (flow_line nodes.now (units_in flow.now) arc.now) }
 {
-    let (from, to, _, _) = arc;
-    let units = flow.units_near(near.place, from, to).unwrap_or(0);
+    let (ends, _) = arc;
+    let units = flow.units_at(near.place, ends).unwrap_or(0);
     near.place = near.place.saturating_add(1);
     line.clear();
-    write_units(nodes, &from, &to, units, near, line)?;
+    write_units(nodes, ends, units, &mut near.found, line)?;
     put_all(out, line.as_bytes())
 }
 
-// Appends the units between two nodes, if there are any, and keeps the nodes' IDs.
+// Appends the units between two nodes, if there are any.
 fn write_units(
     nodes: &[Node],
-    from: &Node,
-    to: &Node,
+    ends: &(Node, Node),
     units: u64,
-    near: &mut Near,
+    found: &mut FoundIds,
     line: &mut String,
 ) -> Result<(), Refusal>
     requires { Rises node_cmp nodes.now }
     ensures ok { OnOk result (string_bytes line.new
-        ≡ string_bytes line.old ++ units_line nodes.now from.now to.now units) }
+        ≡ string_bytes line.old ++ units_line nodes.now ends.now.0 ends.now.1 units) }
     ensures err { IsOkUnless result Refusal.OutOfMemory }
 {
     if units == 0 {
         return Ok(());
     }
-    let source = id_near(nodes, from, near.source);
-    let target = id_near(nodes, to, near.target);
-    near.source = source;
-    near.target = target;
-    push_number(line, "f ", source as u64)?;
-    push_number(line, " ", target as u64)?;
+    let ids = found.ends(nodes, ends);
+    push_number(line, "f ", ids.source as u64)?;
+    push_number(line, " ", ids.target as u64)?;
     push_number(line, " ", units)?;
     line.push_str("\n")?;
     Ok(())

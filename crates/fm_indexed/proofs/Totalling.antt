@@ -15,7 +15,7 @@ use Rattle.fm_indexed.specs.Numbered.{IsNumbered}
 use Rattle.fm_indexed.specs.inner.Named.{named_units, entered_by}
 use Rattle.fm_indexed.proofs.Placed.{place_of_member, member_at}
 use Rattle.fm_indexed.proofs.Naming.{named_rise, named_fit, enters_none}
-use Rattle.fm_indexed.proofs.Entered.{no_total, total_there}
+use Rattle.fm_indexed.proofs.Entered.{no_total, total_there, entered_rise}
 use Rattle.fm_indexed.proofs.Certify.{same_sum}
 
 module _ (net : Net) (can : CanBeNet net) (places : NodeRanges) (numbers : List IndexedArc) (is : IsNumbered net places numbers) (units sums : List ℕ) (summed : (v : ℕ) → v < places.end → slice_index sums v ≡ inflow_at numbers units v) where
@@ -42,5 +42,6 @@ module _ (net : Net) (can : CanBeNet net) (places : NodeRanges) (numbers : List 
   totalled fits = record {
     rises = named_rise net.arcs units can.arcs_rise;
     fits = named_fit net.arcs units fits;
+    in_order = entered_rise net.nodes sums can.nodes_rise;
     enters = enters;
   }

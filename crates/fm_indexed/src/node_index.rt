@@ -1,9 +1,8 @@
 //! The index of a node by its name, in most cases without a search.
 //!
 //! Numbering a network looks up two names for each arc, and a binary search for each would be O(arcs log nodes). Arcs
-//! come in order, so the end of one is mostly where that of the arc before was, or next to it. Else a small table, by a
-//! hash of the name, says where such a node was found last. Only if the guess is wrong, the nodes of the kind are
-//! searched.
+//! come in order, so the end of one is mostly where that of the arc before was, or next to it. Else a small table says
+//! where the node may stand (`node_guesses` of `fm_net`). Only if the guess is wrong, the nodes of the kind are searched.
 
 ghost use Rattle.std.specs.Prelude.{◌≡◌, ◌↔◌, IsTrue, Some, slice_get};
 ghost use Rattle.fm_records.specs.Sets.{IsMember};
@@ -12,8 +11,8 @@ ghost use Rattle.fm_net.specs.Nodes.{node_cmp};
 ghost use Rattle.fm_indexed.specs.NodeRanges.{AreRangesOf};
 
 use crate::node_ranges::{NodeRanges, range_of};
-use fm_cycles::lookup::value_or;
 use fm_net::node::Node;
+use fm_net::node_guesses::NodeGuesses;
 
 // Whether the node is at the index.
 fn stands_at(nodes: &[Node], place: usize, node: &Node) -> bool
@@ -59,34 +58,13 @@ pub(crate) fn index_of(nodes: &[Node], places: &NodeRanges, guess: usize, node: 
     search(nodes, places, node)
 }
 
-/// How many guesses are kept: in 64 KB, which stay in a processor's cache, one for each machine of some thousand.
-pub(crate) const GUESSES: usize = 8192;
-
-// Knuth's multiplier, a prime near 2^32 over the golden ratio: it spreads bandwidths, most of which are multiples of a
-// round number.
-const SPREAD: u64 = 2_654_435_761;
-
-// The lowest bits of a product depend on the lowest bits of the bandwidth alone, so the slot is taken above them.
-const LOWEST: u64 = 4096;
-
-// The slot of a node's guess: some number of its name.
-fn slot_of(node: &Node) -> usize {
-    match node {
-        Node::Sink => 0,
-        Node::Request(bandwidth) => (u64::from(*bandwidth) * SPREAD / LOWEST) as usize % GUESSES,
-        Node::Unscheduled(job) => (job.value() % GUESSES as u128) as usize,
-        Node::Machine(machine) => (machine.value() % GUESSES as u128) as usize,
-        Node::Task(task) => (task.value() % GUESSES as u128) as usize,
-    }
-}
-
 /// The index of a node, looked for behind the one near, then at the guess for the node, and then among its kind; that
 /// is the guess from then on. Nodes share guesses, so that a guess may be wrong.
 pub(crate) fn index_by(
     nodes: &[Node],
     places: &NodeRanges,
     near: usize,
-    guesses: &mut [usize],
+    guesses: &mut NodeGuesses,
     node: &Node,
 ) -> usize
     requires rises { Rises node_cmp nodes.now }
@@ -98,14 +76,11 @@ pub(crate) fn index_by(
     if stands_at(nodes, behind, node) {
         return behind;
     }
-    let slot = slot_of(node);
-    let guess = value_or(guesses, slot, 0);
+    let guess = guesses.guess(node);
     if stands_at(nodes, guess, node) {
         return guess;
     }
     let place = search(nodes, places, node);
-    if let Some(there) = guesses.get_mut(slot) {
-        *there = place;
-    }
+    guesses.keep(node, place);
     place
 }

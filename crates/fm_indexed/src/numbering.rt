@@ -5,12 +5,13 @@ ghost use Rattle.std.specs.List.{filter_map};
 ghost use Rattle.fm_indexed.specs.NodeRanges.{AreRangesOf};
 ghost use Rattle.fm_indexed.specs.Numbered.{AreArcsOf, bandwidth_in};
 
-use crate::node_index::{GUESSES, index_by, index_of};
+use crate::node_index::{index_by, index_of};
 use crate::node_ranges::NodeRanges;
 use fm_cycles::indexed_arcs::IndexedArc;
 use fm_lattice::join::OutOfMemory;
 use fm_net::network::Network;
 use fm_net::node::Node;
+use fm_net::node_guesses::NodeGuesses;
 use std::alloc::Global;
 
 /// The nodes, in order.
@@ -34,17 +35,17 @@ pub(crate) fn arcs_of(
 {
     network.known();
     let mut arcs = Vec::with_capacity(alloc, network.arcs_len())?;
-    let mut guesses = vec![in alloc; 0usize; GUESSES]?;
+    let mut guesses = NodeGuesses::none(alloc, nodes.len())?;
     let mut from = 0;
     let mut to = 0;
-    for (source, target, capacity, cost) in network.arcs() {
-        from = index_of(nodes, places, from, &source);
-        to = index_by(nodes, places, to, &mut guesses, &target);
+    for arc in network.arc_entries() {
+        from = index_of(nodes, places, from, &arc.0.0);
+        to = index_by(nodes, places, to, &mut guesses, &arc.0.1);
         arcs.push(IndexedArc {
             from,
             to,
-            capacity,
-            cost,
+            capacity: arc.1.0,
+            cost: arc.1.1,
         })?;
     }
     Ok(arcs)

@@ -80,8 +80,7 @@ fn flow_of(
     let entries = units_of(alloc, nodes, &numbered.arcs, units)?;
     let sums = inflow(alloc, numbered, units)?;
     let entered = entered_of(alloc, nodes, &sums)?;
-    let flow = Flow::of(alloc, entries, entered)?;
-    Ok(flow)
+    Ok(Flow::of(entries, entered))
 }
 
 // The value at a place, 0 beyond the end.

@@ -50,7 +50,7 @@ pub fn get_hinted<K: Ord + Copy, V: Copy>(pairs: &[(K, V)], near: usize, key: &K
     ensures { result ≡ lookup K.cmp key.now pairs.now }
 {
     if near < pairs.len() {
-        let pair = pairs[near];
+        let pair = &pairs[near];
         if pair.0.cmp(key).is_eq() {
             return Some(pair.1);
         }
@@ -100,8 +100,9 @@ fn put_in<T: Copy>(pairs: &mut Vec<T>, at: usize, pair: T) -> Result<(), OutOfMe
     Ok(())
 }
 
-// As `insert`, if there is room for a new key: nothing can fail. Chains tell their keys apart.
-pub(crate) fn set_within<K: Chain, V: Drop>(pairs: &mut Vec<(K, V)>, key: K, value: V)
+/// As `insert`, if the key is there or there is room for it, so that nothing can fail and nothing is allocated. The caller must
+/// ensure that.
+pub fn set_within<K: Chain, V: Drop>(pairs: &mut Vec<(K, V)>, key: K, value: V)
     requires rising { IsRising K.cmp pairs.old.items }
     requires room { lookup K.cmp key pairs.old.items ≡ None → vec_len pairs.old < vec_capacity pairs.old }
     ensures items { pairs.new.items ≡ put K.cmp keep_new key value pairs.old.items }

@@ -5,7 +5,7 @@
 //! into cells, O(n log n) once, and each edit is a search there, O(log n).
 
 ghost use Rattle.std.specs.Prelude.{◌≡◌, ◌<◌, ◌^◌, ◌&&◌, [], length, is_some, IfOk, OnOk, OnErr};
-ghost use Rattle.std.specs.Iterator.{YieldsFirst, item_count};
+ghost use Rattle.std.specs.Iterator.{YieldsFirstBy, item_count};
 ghost use Rattle.std.specs.Map.{remove_entry};
 ghost use Rattle.std.specs.BTreeMap.{is_at};
 ghost use Rattle.std.specs.Cmp.Lexicographic.{pointwise};
@@ -191,7 +191,7 @@ impl<K: Chain, V: PartialEq + Copy> PartialEq for HybridMap<K, V> {
 
 impl<K: Chain + fmt::Debug, V: Copy + fmt::Debug> fmt::Debug for HybridMap<K, V> {
     fn fmt<W: fmt::Write>(&self, f: &mut fmt::Formatter<W>) -> fmt::Result {
-        f.debug_map().entries(self.iter()).finish()
+        f.debug_map().entries(self.iter().copied()).finish()
     }
 }
 
@@ -217,18 +217,18 @@ impl<'a, K: Chain, V: Copy> Model for Pairs<'a, K, V> {
 }
 
 impl<'a, K: Chain, V: Copy> Iterator for Pairs<'a, K, V> {
-    type Item = (K, V);
+    type Item = &'a (K, V);
 
-    ghost next_gives = { YieldsFirst (λ s. s) };
+    ghost next_gives = { YieldsFirstBy (λ pair. pair.now) (λ s. s) };
 
     ghost remaining = { item_count (λ s. s) };
 
-    fn next(&mut self) -> Option<(K, V)> {
+    fn next(&mut self) -> Option<&'a (K, V)> {
         match &mut self.rest {
             Rest::Packed(pairs) => {
                 let (first, later) = pairs.split_first()?;
                 *pairs = later;
-                Some(*first)
+                Some(first)
             }
             Rest::Cells(pairs) => pairs.next(),
         }
@@ -244,7 +244,7 @@ fn same_pairs<K: Chain, V: PartialEq + Copy>(left: Pairs<'_, K, V>, right: Pairs
     while let Some((key, value)) = left.next() {
         match right.next() {
             Some((other_key, other_value)) => {
-                if !(key == other_key && value == other_value) {
+                if !(*key == *other_key && *value == *other_value) {
                     return false;
                 }
             }

@@ -7,5 +7,6 @@ mod hybrid_map;
 pub mod laws;
 pub mod network;
 pub mod node;
+pub mod node_guesses;
 mod slab_map;
 pub mod walks;

@@ -14,7 +14,7 @@ ghost use Rattle.fm_net.specs.inner.Ends.{is_end};
 
 use crate::hybrid_map::HybridMap;
 use crate::node::Node;
-use crate::walks::{Arcs, Nodes};
+use crate::walks::{ArcEntries, Arcs, Nodes};
 use fm_lattice::join::OutOfMemory;
 use std::alloc::{AllocError, Global};
 use std::marker::Model;
@@ -170,6 +170,14 @@ impl Network {
         ensures fits { length self.now.arcs < 2 ^ 63 }
     {
         Arcs::of(&self.arcs)
+    }
+
+    /// The arcs as they are kept, by (from, to): both ends, with the capacity and the cost. A walk that copies none of them.
+    pub fn arc_entries(&self) -> ArcEntries<'_>
+        ensures all { result ≡ self.now.arcs }
+        ensures fits { length self.now.arcs < 2 ^ 63 }
+    {
+        ArcEntries::of(&self.arcs)
     }
 
     /// How many nodes there are.

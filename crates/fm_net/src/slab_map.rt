@@ -4,7 +4,7 @@
 //! place of its cell. A get, a put and a remove are each a search in the tree, O(log n).
 
 ghost use Rattle.std.specs.Prelude.{◌≡◌, ◌<◌, ◌+◌, ◌^◌, if◌then◌else◌, [], length, is_some, option_map, IfOk, OnOk, OnErr};
-ghost use Rattle.std.specs.Iterator.{YieldsFirst, item_count};
+ghost use Rattle.std.specs.Iterator.{YieldsFirstBy, item_count};
 ghost use Rattle.std.specs.Map.{remove_entry};
 ghost use Rattle.std.specs.BTreeMap.{is_at, insert_entry};
 ghost use Rattle.std.specs.Option.{unwrap_or};
@@ -146,15 +146,15 @@ impl<'a, K: Copy, V: Copy> Model for Pairs<'a, K, V> {
 }
 
 impl<'a, K: Copy, V: Copy> Iterator for Pairs<'a, K, V> {
-    type Item = (K, V);
+    type Item = &'a (K, V);
 
-    ghost next_gives = { YieldsFirst (λ s. s) };
+    ghost next_gives = { YieldsFirstBy (λ pair. pair.now) (λ s. s) };
 
     ghost remaining = { item_count (λ s. s) };
 
-    fn next(&mut self) -> Option<(K, V)> {
+    fn next(&mut self) -> Option<&'a (K, V)> {
         match self.places.next() {
-            Some((_, place)) => Some(self.cells[*place]),
+            Some((_, place)) => Some(&self.cells[*place]),
             None => None,
         }
     }

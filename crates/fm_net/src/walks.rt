@@ -43,7 +43,7 @@ impl<'a> Iterator for Nodes<'a> {
 
     fn next(&mut self) -> Option<Node> {
         match self.rest.next() {
-            Some((node, ())) => Some(node),
+            Some((node, ())) => Some(*node),
             None => None,
         }
     }
@@ -82,8 +82,44 @@ impl<'a> Iterator for Arcs<'a> {
 
     fn next(&mut self) -> Option<(Node, Node, u64, u32)> {
         match self.rest.next() {
-            Some(((from, to), (capacity, cost))) => Some((from, to, capacity, cost)),
+            Some(((from, to), (capacity, cost))) => Some((*from, *to, *capacity, *cost)),
             None => None,
         }
+    }
+}
+
+/// The arcs that are left of a walk, as the network keeps them: the ends, with the capacity and the cost, by (from, to).
+#[derive(Drop)]
+pub struct ArcEntries<'a> {
+    rest: Pairs<'a, (Node, Node), (u64, u32)>,
+}
+
+impl<'a> Model for ArcEntries<'a> {
+    ghost use Rattle.std.specs.Prelude.{ℕ, List};
+    ghost use Rattle.fm_net.specs.declared.node.Node.{Node as NodeName};
+
+    ghost Value = { List ((NodeName × NodeName) × (ℕ × ℕ)) };
+
+    ghost view = { λ s. s.rest };
+}
+
+impl<'a> ArcEntries<'a> {
+    pub(crate) fn of(arcs: &'a HybridMap<(Node, Node), (u64, u32)>) -> Self
+        ensures all { result ≡ arcs.now }
+        ensures fits { length arcs.now < 2 ^ 63 }
+    {
+        ArcEntries { rest: arcs.iter() }
+    }
+}
+
+impl<'a> Iterator for ArcEntries<'a> {
+    type Item = &'a ((Node, Node), (u64, u32));
+
+    ghost next_gives = { YieldsFirstBy (λ arc. arc.now) (λ s. s) };
+
+    ghost remaining = { item_count (λ s. s) };
+
+    fn next(&mut self) -> Option<&'a ((Node, Node), (u64, u32))> {
+        self.rest.next()
     }
 }

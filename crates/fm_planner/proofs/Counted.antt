@@ -1,5 +1,6 @@
 -- Counts of moves, one by one.
 use Rattle.std.proofs.Common.{◌≡◌, ◌∙◌, sym, ap, refl, ℕ, true, false, ◌==◌, ◌&&◌, Some, None, eq-eqb}
+use Rattle.std.specs.Prelude.{Option}
 use Rattle.std.specs.Ordering.{nat_cmp, is_eq, ordering_then}
 use Rattle.std.specs.BTreeMap.{is_at}
 use Rattle.std.specs.Cmp.{Equal-is, nat_cmp_total}
@@ -10,8 +11,6 @@ use Rattle.std.proofs.lemmas.Cmp.{tied_itself}
 use Rattle.fm_lattice.specs.laws.ChainLaws.{nat_same}
 use Rattle.fm_records.specs.Options.{passes}
 use Rattle.fm_records.specs.Orders.{attempt_cmp}
-use Rattle.fm_records.specs.Table.{Table}
-use Rattle.fm_records.specs.Facts.{holder_of, holds}
 use Rattle.fm_tally.specs.declared.way.Way.{Way}
 use Rattle.fm_tally.specs.declared.way.Way.TheVariants.{ToJob, ByRequest, Straight}
 use Rattle.fm_paths.specs.TaskPaths.{goes_by, takes_slot}
@@ -43,5 +42,6 @@ machine_counts m t (ToJob j) = refl
 machine_counts m t (ByRequest q p) = at_number p m
 machine_counts m t (Straight p) = at_number p m
 
-pub holder_counts : (k : Table) (m t : ℕ) → passes (λ (p : ℕ). is_at (nat_cmp p) m) (holder_of k t) ≡ holds k m t
-holder_counts k m t = elim (holder_of k t) as (λ o. passes (λ (p : ℕ). is_at (nat_cmp p) m) o ≡ passes (λ (h : ℕ). h == m) o) [ None ↦ refl | Some h ↦ at_number h m ]
+pub holder_counts : (m : ℕ) (holder : Option ℕ) → passes (λ (p : ℕ). is_at (nat_cmp p) m) holder ≡ passes (λ (h : ℕ). h == m) holder
+holder_counts m None = refl
+holder_counts m (Some h) = at_number h m

@@ -5,9 +5,10 @@
 //! greatest offers of requests up to a size are worked out once. So a machine is compared with each request only if one
 //! of these offers is beyond its price.
 
-ghost use Rattle.std.specs.Prelude.{◌≡◌, ◌≤◌, ◌<◌, ◌+◌, ◌↔◌, ℕ, None, IsTrue, IfOk, IfSome, OnOk};
+ghost use Rattle.std.specs.Prelude.{◌≡◌, ◌≤◌, ◌<◌, ◌+◌, ◌↔◌, ℕ, Some, None, IsTrue, IfOk, IfSome, OnOk};
 ghost use Rattle.std.specs.Ordering.{nat_cmp};
 ghost use Rattle.std.specs.BTreeMap.{get};
+ghost use Rattle.fm_lattice.specs.Maps.{lookup};
 ghost use Rattle.fm_policy.specs.Rooms.{fitting_tasks};
 ghost use Rattle.fm_planner.specs.inner.Claims.{rise_of, offer_of};
 ghost use Rattle.fm_planner.specs.inner.Slackness.{AllOf, IsFairTask, IsFairMove, IsFairMachine, IsFairOffer, IsTop, IsFairAtRest, IsPreferredFairly, IsNoCheaper, HasRoom, GoesStraight, own_cost, straight_cost, load_in, HasFairSlots, HasMoreRoom, Leaves, Asks, GoInTurn, IsNext, after_move, Passes};
@@ -72,12 +73,12 @@ fn is_fair_task(
 ) -> bool
     ensures { IsTrue result → IsFairTask knowledge.now tally.now claim.now (task, live.now) }
 {
-    if !rests_fairly(claim, number, live) && !claim.has_move(task) {
+    if !rests_fairly(claim, number, live) && claim.way(number, task).is_none() {
         return false;
     }
     live.holder.is_some()
         || !live.prefers
-        || is_preferred_fairly(knowledge, tally, claim, task, live)
+        || is_preferred_fairly(knowledge, tally, claim, number, task, live)
 }
 
 // Whether the task may rest: preempting it costs no less than the rise of its machine, or letting it wait no more than its request
@@ -96,6 +97,7 @@ fn is_preferred_fairly(
     knowledge: &Knowledge,
     tally: &Tally,
     claim: &Claim,
+    number: usize,
     task: TaskId,
     live: &LiveTask,
 ) -> bool
@@ -104,7 +106,7 @@ fn is_preferred_fairly(
     let Some(spec) = knowledge.live_spec(task) else {
         return true;
     };
-    let way = claim.moves.get(&task);
+    let way = claim.way(number, task);
     let Some(cost) = own_cost(tally, claim, live, &spec.prefer, &way) else {
         return false;
     };
@@ -141,7 +143,7 @@ fn straight_cost(
 ) -> Option<u64>
     ensures { IfSome result (λ cost. cost ≡ straight_cost tally.now claim.now request (machine, credit)) }
 {
-    let load = load_in(tally, machine);
+    let load = load_in(tally, claim, machine);
     let rise = claim.rise(machine);
     if load > u128::from(MOST) || rise > MOST {
         return None;
@@ -151,20 +153,20 @@ fn straight_cost(
 }
 
 // The load of the machine, 0 if it is not open.
-fn load_in(tally: &Tally, machine: MachineId) -> u128
+fn load_in(tally: &Tally, claim: &Claim, machine: MachineId) -> u128
     ensures { result ≡ load_in tally.now machine }
 {
-    match tally.machines.get(&machine) {
+    match claim.machine(tally, machine) {
         Some(state) => state.load,
         None => 0,
     }
 }
 
 // Whether the machine is open, with room for the request.
-fn has_room(tally: &Tally, machine: MachineId, request: u32) -> bool
+fn has_room(tally: &Tally, claim: &Claim, machine: MachineId, request: u32) -> bool
     ensures { IsTrue result ↔ HasRoom tally.now machine request }
 {
-    let Some(state) = tally.machines.get(&machine) else {
+    let Some(state) = claim.machine(tally, machine) else {
         return false;
     };
     match state.spare {
@@ -201,7 +203,7 @@ fn is_no_cheaper(
 ) -> bool
     ensures { IsTrue result → IsNoCheaper tally.now claim.now request cost (machine, credit) }
 {
-    if !has_room(tally, machine, request) {
+    if !has_room(tally, claim, machine, request) {
         return true;
     }
     match straight_cost(tally, claim, request, machine, credit) {
@@ -221,10 +223,13 @@ fn is_left_fairly(claim: &Claim, live: &LiveTask) -> bool
 fn are_fair_moves(knowledge: &Knowledge, tally: &Tally, claim: &Claim, counts: &Counts) -> bool
     ensures { IsTrue result → AllOf (IsFairMove knowledge.now tally.now claim.now counts.now) claim.now.moves }
 {
+    let mut number = 0usize;
     for (task, way) in claim.moves.pairs() {
-        if !is_fair_move(knowledge, tally, claim, counts, *task, *way) {
+        let live = claim.moved(tally, number, *task);
+        if !is_fair_move(knowledge, tally, claim, counts, live, *task, *way) {
             return false;
         }
+        number = number.saturating_add(1);
     }
     true
 }
@@ -234,15 +239,22 @@ fn is_fair_move(
     tally: &Tally,
     claim: &Claim,
     counts: &Counts,
+    live: Option<LiveTask>,
     task: TaskId,
     way: Way,
 ) -> bool
+    requires { live ≡ lookup nat_cmp task tally.now.tasks }
     ensures { IsTrue result → IsFairMove knowledge.now tally.now claim.now counts.now (task, way) }
 {
+    let Some(live) = live else {
+        return false;
+    };
     match way {
-        Way::ToJob(job) => leaves(tally, claim, task, job),
-        Way::ByRequest(request, machine) => asks(tally, claim, counts, task, request, machine),
-        Way::Straight(machine) => goes_straight(knowledge, tally, claim, task, machine),
+        Way::ToJob(job) => leaves(tally, claim, &live, task, job),
+        Way::ByRequest(request, machine) => {
+            asks(tally, claim, counts, &live, task, request, machine)
+        }
+        Way::Straight(machine) => goes_straight(knowledge, tally, claim, &live, task, machine),
     }
 }
 
@@ -251,14 +263,13 @@ fn goes_straight(
     knowledge: &Knowledge,
     tally: &Tally,
     claim: &Claim,
+    live: &LiveTask,
     task: TaskId,
     machine: MachineId,
 ) -> bool
+    requires { lookup nat_cmp task tally.now.tasks ≡ Some live.now }
     ensures { IsTrue result → GoesStraight knowledge.now tally.now claim.now task machine }
 {
-    let Some(live) = tally.tasks.get(&task) else {
-        return false;
-    };
     let Some(spec) = knowledge.live_spec(task) else {
         return false;
     };
@@ -269,7 +280,7 @@ fn goes_straight(
         return false;
     };
     live.holder.is_none()
-        && has_room(tally, machine, live.request)
+        && has_room(tally, claim, machine, live.request)
         && cost <= u64::from(live.price)
         && is_paid(claim, cost, live.request)
 }
@@ -282,12 +293,10 @@ fn is_paid(claim: &Claim, cost: u64, request: u32) -> bool
 }
 
 // Whether the task is held, and costs no more to preempt than the rise of its machine.
-fn leaves(tally: &Tally, claim: &Claim, task: TaskId, job: JobId) -> bool
+fn leaves(tally: &Tally, claim: &Claim, live: &LiveTask, task: TaskId, job: JobId) -> bool
+    requires { lookup nat_cmp task tally.now.tasks ≡ Some live.now }
     ensures { IsTrue result → Leaves tally.now claim.now task job }
 {
-    let Some(live) = tally.tasks.get(&task) else {
-        return false;
-    };
     let Some(machine) = live.holder else {
         return false;
     };
@@ -299,19 +308,18 @@ fn asks(
     tally: &Tally,
     claim: &Claim,
     counts: &Counts,
+    live: &LiveTask,
     task: TaskId,
     request: u32,
     machine: MachineId,
 ) -> bool
+    requires { lookup nat_cmp task tally.now.tasks ≡ Some live.now }
     ensures { IsTrue result → Asks tally.now claim.now counts.now task request machine }
 {
-    let Some(live) = tally.tasks.get(&task) else {
-        return false;
-    };
     if live.request != request || live.holder.is_some() {
         return false;
     }
-    let Some(state) = tally.machines.get(&machine) else {
+    let Some(state) = claim.machine(tally, machine) else {
         return false;
     };
     let Some(spare) = state.spare else {

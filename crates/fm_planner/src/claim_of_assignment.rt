@@ -1,9 +1,10 @@
 //! From the assignment of a search to the claim that a check takes: moves by task, and prices by machine and request.
 
-use crate::claim::Claim;
+use crate::claim::{Claim, Places};
+use crate::machine_index::NONE;
 use crate::tally_instance::Names;
 use fm_lattice::join::OutOfMemory;
-use fm_records::ids::{MachineId, TaskId};
+use fm_records::ids::MachineId;
 use fm_search::assignment::{Assignment, Destination};
 use fm_tally::sorted::Sorted;
 use fm_tally::tally::Tally;
@@ -20,15 +21,50 @@ pub(crate) fn claim_of(
     assignment: &Assignment,
     names: Names,
 ) -> Result<Claim, OutOfMemory> {
-    let moves = moves_of(alloc, tally, assignment, &names)?;
+    let ways = ways_of(alloc, tally, assignment, &names)?;
     let rises = rises_of(alloc, assignment, &names)?;
     let offers = offers_of(alloc, assignment, &names)?;
-    Ok(Claim {
-        moves,
+    with_moves(alloc, tally, names, &ways, rises, offers)
+}
+
+// The claim of these ways, each with the number of its task in the tally, rising.
+fn with_moves(
+    alloc: Global,
+    tally: &Tally,
+    names: Names,
+    ways: &[(usize, Way)],
+    rises: Sorted<MachineId, u64>,
+    offers: Sorted<u32, u64>,
+) -> Result<Claim, OutOfMemory> {
+    let mut claim = Claim {
+        moves: Sorted::new(alloc),
         rises,
         offers,
-        holders: names.holders,
-    })
+        places: Places {
+            machines: names.numbers,
+            tasks: names.holders,
+            moves: Vec::with_capacity(alloc, ways.len())?,
+        },
+    };
+    for (number, way) in ways {
+        add_move(&mut claim, tally, *number, *way)?;
+    }
+    Ok(claim)
+}
+
+// Adds the move of the task of that number, which comes after the others.
+fn add_move(claim: &mut Claim, tally: &Tally, number: usize, way: Way) -> Result<(), OutOfMemory> {
+    let Some((task, live)) = tally.tasks.pairs().get(number) else {
+        return Ok(());
+    };
+    if live.holder.is_none() {
+        if let Some(place) = claim.places.tasks.get_mut(number) {
+            *place = claim.places.moves.len();
+        }
+    }
+    claim.places.moves.push(number)?;
+    claim.moves.put(*task, way)?;
+    Ok(())
 }
 
 // A price less another, as a check takes it.
@@ -74,70 +110,60 @@ fn offers_of(
     Ok(offers)
 }
 
-// The moves: of each request, the machines to which its tasks go by rising id, to its placed tasks by rising id; the tasks that go
-// straight; and the tasks that are preempted.
-fn moves_of(
+// The ways of the tasks that move, by their numbers in the tally, rising: of each request, the machines to which its tasks go by
+// rising id, to its placed tasks by rising id; the tasks that go straight; and the tasks that are preempted.
+fn ways_of(
     alloc: Global,
     tally: &Tally,
     assignment: &Assignment,
     names: &Names,
-) -> Result<Sorted<TaskId, Way>, OutOfMemory> {
-    let mut moves = straight_moves(alloc, tally, assignment, names)?;
-    add_by_request(alloc, &mut moves, tally, assignment, names)?;
-    add_preempted(&mut moves, tally, assignment, names)?;
-    moves.sort_unstable_by_key(|pair| pair.0);
-    let mut sorted = Sorted::new(alloc);
-    for (task, way) in &moves {
-        sorted.put(*task, *way)?;
-    }
-    Ok(sorted)
+) -> Result<Vec<(usize, Way)>, OutOfMemory> {
+    let mut ways = straight_ways(alloc, assignment, names)?;
+    add_by_request(alloc, &mut ways, assignment, names)?;
+    add_preempted(&mut ways, tally, assignment, names)?;
+    ways.sort_unstable_by_key(|pair| pair.0);
+    Ok(ways)
 }
 
-// The task of a number of the tally.
-fn task_at(tally: &Tally, number: usize) -> Option<TaskId> {
-    let (task, _) = tally.tasks.pairs().get(number)?;
-    Some(*task)
+// The machine at the place among those by id.
+fn machine_at(names: &Names, place: usize) -> Option<MachineId> {
+    let (machine, _) = names.numbers.pairs().get(place)?;
+    Some(*machine)
 }
 
-// The moves of the tasks that go straight.
-fn straight_moves(
+// The ways of the tasks that go straight.
+fn straight_ways(
     alloc: Global,
-    tally: &Tally,
     assignment: &Assignment,
     names: &Names,
-) -> Result<Vec<(TaskId, Way)>, OutOfMemory> {
-    let mut moves = Vec::new(alloc);
-    for (number, destination) in names
-        .tasks
-        .preferring
-        .iter()
-        .zip(assignment.destinations.iter())
-    {
+) -> Result<Vec<(usize, Way)>, OutOfMemory> {
+    let mut ways = Vec::new(alloc);
+    let tasks = names.tasks.preferring.iter();
+    for (number, destination) in tasks.zip(assignment.destinations.iter()) {
         if let Destination::Straight(machine) = *destination {
-            if let (Some(task), Some(machine)) = (
-                task_at(tally, *number),
-                names.machines.get(machine),
-            ) {
-                moves.push((task, Way::Straight(*machine)))?;
+            let place = names.places.get(machine).copied().unwrap_or(NONE);
+            if let Some(machine) = machine_at(names, place) {
+                ways.push((*number, Way::Straight(machine)))?;
             }
         }
     }
-    Ok(moves)
+    Ok(ways)
 }
 
-// Adds the moves of the tasks that go over their requests.
+// Adds the ways of the tasks that go over their requests.
 fn add_by_request(
     alloc: Global,
-    moves: &mut Vec<(TaskId, Way)>,
-    tally: &Tally,
+    ways: &mut Vec<(usize, Way)>,
     assignment: &Assignment,
     names: &Names,
 ) -> Result<(), OutOfMemory> {
-    let tasks = tasks_of(alloc, tally, assignment, names)?;
+    let tasks = tasks_of(alloc, assignment, names)?;
     let seats = seats_of(alloc, assignment, names)?;
-    for ((request, task), (_, machine)) in tasks.iter().zip(seats.iter()) {
+    for ((request, task), (_, place)) in tasks.iter().zip(seats.iter()) {
         let request = names.requests.get(*request).copied().unwrap_or(0);
-        moves.push((*task, Way::ByRequest(request, *machine)))?;
+        if let Some(machine) = machine_at(names, *place) {
+            ways.push((*task, Way::ByRequest(request, machine)))?;
+        }
     }
     Ok(())
 }
@@ -145,29 +171,25 @@ fn add_by_request(
 // The tasks that go over their requests, by request and task.
 fn tasks_of(
     alloc: Global,
-    tally: &Tally,
     assignment: &Assignment,
     names: &Names,
-) -> Result<Vec<(usize, TaskId)>, OutOfMemory> {
+) -> Result<Vec<(usize, usize)>, OutOfMemory> {
     let mut tasks = Vec::new(alloc);
     for (number, request) in assignment.instance.requests.iter().enumerate() {
         let placed = assignment.placed.get(number).copied().unwrap_or(0);
         let end = request.first.saturating_add(placed);
         for waiting in names.tasks.waiting.get(request.first..end).unwrap_or(&[]) {
-            if let Some(task) = task_at(tally, *waiting) {
-                tasks.push((number, task))?;
-            }
+            tasks.push((number, *waiting))?;
         }
     }
-    add_preferring(&mut tasks, tally, assignment, names)?;
+    add_preferring(&mut tasks, assignment, names)?;
     tasks.sort_unstable();
     Ok(tasks)
 }
 
 // Adds those of them that prefer machines.
 fn add_preferring(
-    tasks: &mut Vec<(usize, TaskId)>,
-    tally: &Tally,
+    tasks: &mut Vec<(usize, usize)>,
     assignment: &Assignment,
     names: &Names,
 ) -> Result<(), OutOfMemory> {
@@ -178,25 +200,23 @@ fn add_preferring(
         .zip(assignment.destinations.iter());
     for (number, (waiting, destination)) in names.tasks.preferring.iter().zip(preferring) {
         if *destination == Destination::ByRequest {
-            if let Some(task) = task_at(tally, *number) {
-                tasks.push((waiting.request, task))?;
-            }
+            tasks.push((waiting.request, *number))?;
         }
     }
     Ok(())
 }
 
-// A machine for each task that goes to it over a request, by request and machine.
+// A machine for each task that goes to it over a request, by request and machine: its place among those by id.
 fn seats_of(
     alloc: Global,
     assignment: &Assignment,
     names: &Names,
-) -> Result<Vec<(usize, MachineId)>, OutOfMemory> {
+) -> Result<Vec<(usize, usize)>, OutOfMemory> {
     let mut seats = Vec::new(alloc);
-    for (machine, shares) in names.machines.iter().zip(assignment.shares.iter()) {
+    for (place, shares) in names.places.iter().zip(assignment.shares.iter()) {
         for share in shares {
             for _ in 0..share.units {
-                seats.push((share.request, *machine))?;
+                seats.push((share.request, *place))?;
             }
         }
     }
@@ -204,9 +224,9 @@ fn seats_of(
     Ok(seats)
 }
 
-// Adds the moves of the held tasks that are preempted: the cheapest of each machine.
+// Adds the ways of the held tasks that are preempted: the cheapest of each machine.
 fn add_preempted(
-    moves: &mut Vec<(TaskId, Way)>,
+    ways: &mut Vec<(usize, Way)>,
     tally: &Tally,
     assignment: &Assignment,
     names: &Names,
@@ -219,8 +239,8 @@ fn add_preempted(
     {
         let end = machine.first.saturating_add(*gone).min(machine.end);
         for number in names.tasks.held.get(machine.first..end).unwrap_or(&[]) {
-            if let Some((task, live)) = tally.tasks.pairs().get(*number) {
-                moves.push((*task, Way::ToJob(live.job)))?;
+            if let Some((_, live)) = tally.tasks.pairs().get(*number) {
+                ways.push((*number, Way::ToJob(live.job)))?;
             }
         }
     }

@@ -25,9 +25,14 @@ impl Numbers {
         Ok(Numbers { pairs, guide })
     }
 
+    /// Where the machine may stand among the others by id.
+    pub(crate) fn near(&self, machine: MachineId) -> usize {
+        self.guide.guess(upper(machine.value()))
+    }
+
     /// The place of the machine among the others by id, and its number.
     pub(crate) fn find(&self, machine: MachineId) -> Option<(usize, usize)> {
-        let near = self.guide.guess(upper(machine.value()));
+        let near = self.near(machine);
         if let Some((there, number)) = self.pairs.get(near) {
             if *there == machine {
                 return Some((near, *number));

@@ -3,12 +3,16 @@
 ghost use Rattle.std.specs.Prelude.{◌≡◌, ◌<◌, ◌+◌, ◌^◌, ℕ, cond, length, count_by, IfOk, OnOk};
 ghost use Rattle.std.specs.BTreeMap.{is_at};
 ghost use Rattle.fm_records.specs.Options.{passes};
+ghost use Rattle.fm_records.specs.Facts.{holder_of};
+ghost use Rattle.fm_tally.specs.Tallies.{TallyIsFor};
 ghost use Rattle.fm_planner.specs.inner.Counts.{count_in, pairs_in, arriving_in, leaving_in, pair_of, moved_machine, AreCounts, CountsMore};
 
+use crate::claim::Claim;
 use fm_know::knowledge::Knowledge;
 use fm_lattice::chain::Chain;
 use fm_lattice::join::OutOfMemory;
 use fm_records::ids::{MachineId, TaskId};
+use fm_tally::tally::Tally;
 use fm_tally::way::Way;
 use std::alloc::Global;
 use std::collections::BTreeMap;
@@ -23,12 +27,15 @@ pub(crate) struct Counts {
 }
 
 impl Counts {
-    /// The counts of the moves. O(n log n).
+    /// The counts of the moves, which are the claim's. The caller must pass the tally of what is known. O(n log n).
     pub(crate) fn of(
         alloc: Global,
         knowledge: &Knowledge,
+        tally: &Tally,
+        claim: &Claim,
         moves: &[(TaskId, Way)],
     ) -> Result<Counts, OutOfMemory>
+        requires { TallyIsFor knowledge.now tally.now }
         ensures { IfOk result (AreCounts knowledge.now moves.now) }
     {
         let mut counts = Counts {
@@ -36,24 +43,26 @@ impl Counts {
             arriving: BTreeMap::new(alloc),
             leaving: BTreeMap::new(alloc),
         };
+        let mut number = 0usize;
         for (task, way) in moves {
-            counts.add(knowledge, *task, way)?;
+            let holder = holder_of(knowledge, tally, claim, number, *task);
+            counts.add(holder, way)?;
+            number = number.saturating_add(1);
         }
         Ok(counts)
     }
 
-    // Counts one more.
-    fn add(&mut self, knowledge: &Knowledge, task: TaskId, way: &Way) -> Result<(), OutOfMemory>
+    // Counts one more, of a task that the machine holds, if there is one.
+    fn add(&mut self, holder: Option<MachineId>, way: &Way) -> Result<(), OutOfMemory>
         requires pairs { (r m : ℕ) → pairs_in self.old r m + 1 < 2 ^ 64 }
         requires arriving { (m : ℕ) → arriving_in self.old m + 1 < 2 ^ 64 }
         requires leaving { (m : ℕ) → leaving_in self.old m + 1 < 2 ^ 64 }
-        ensures { OnOk result (CountsMore knowledge.now (task, way.now) self.old self.new) }
+        ensures { OnOk result (CountsMore holder way.now self.old self.new) }
     {
         let pair = pair_of(way);
         count(&mut self.pairs, &pair)?;
         let machine = machine_of(way);
         count(&mut self.arriving, &machine)?;
-        let holder = knowledge.holder(task);
         count(&mut self.leaving, &holder)?;
         Ok(())
     }
@@ -77,6 +86,23 @@ impl Counts {
         ensures { result ≡ leaving_in self.now machine }
     {
         self.leaving.get(&machine).copied().unwrap_or(0)
+    }
+}
+
+// The machine that holds the task, of which the move has that number: by the tally, if the task is in it.
+fn holder_of(
+    knowledge: &Knowledge,
+    tally: &Tally,
+    claim: &Claim,
+    number: usize,
+    task: TaskId,
+) -> Option<MachineId>
+    requires { TallyIsFor knowledge.now tally.now }
+    ensures { result ≡ holder_of knowledge.now task }
+{
+    match claim.moved(tally, number, task) {
+        Some(live) => live.holder,
+        None => knowledge.holder(task),
     }
 }
 

@@ -58,7 +58,7 @@ fn plan_by(
     // The tasks are in memory, so there are fewer than 2^63: the check counts them.
     let _few = knowledge.tasks().len();
     let moves = claim.moves.pairs();
-    let counts = Counts::of(alloc, knowledge, moves)?;
+    let counts = Counts::of(alloc, knowledge, tally, claim, moves)?;
     if !passes(alloc, knowledge, tally, claim, &counts)? {
         return Ok(None);
     }

@@ -6,7 +6,7 @@
 use crate::machine_index::{NONE, Numbers};
 use fm_know::knowledge::Knowledge;
 use fm_lattice::join::OutOfMemory;
-use fm_records::ids::{MachineId, TaskId};
+use fm_records::ids::TaskId;
 use fm_search::draft::{Draft, TaskNumbers};
 use fm_search::instance::Instance;
 use fm_tally::tally::{LiveTask, OpenMachine, Tally};
@@ -18,9 +18,10 @@ const MOST_LOAD: u128 = 1 << 44;
 /// What the numbers of an instance stand for.
 #[derive(Drop)]
 pub(crate) struct Names {
-    /// The machines by id, and by number.
+    /// The machines by id, with their numbers.
     pub(crate) numbers: Numbers,
-    pub(crate) machines: Vec<MachineId>,
+    /// Of each machine, by number, its place among those by id.
+    pub(crate) places: Vec<usize>,
     pub(crate) requests: Vec<u32>,
     /// The tasks, by their numbers in the tally.
     pub(crate) tasks: TaskNumbers,
@@ -47,8 +48,8 @@ pub(crate) fn instance_of(
 ) -> Result<(Instance, Names), OutOfMemory> {
     let order = order_of(alloc, tally)?;
     let mut listing = Listing::of(alloc, numbers_of(alloc, tally, &order)?);
-    let machines = listing.add_all(alloc, knowledge, tally, &order)?;
-    listing.finish(alloc, machines)
+    let places = listing.add_all(alloc, knowledge, tally, &order)?;
+    listing.finish(alloc, places)
 }
 
 // The machines' places in the tally, by load.
@@ -101,30 +102,26 @@ impl Listing {
         }
     }
 
-    // Adds machines, requests and tasks. Answers the machines by number.
+    // Adds machines, requests and tasks. Answers the machines' places by number.
     fn add_all(
         &mut self,
         alloc: Global,
         knowledge: &Knowledge,
         tally: &Tally,
         order: &[(u128, usize)],
-    ) -> Result<Vec<MachineId>, OutOfMemory> {
-        let machines = self.add_machines(alloc, tally, order)?;
+    ) -> Result<Vec<usize>, OutOfMemory> {
+        let places = self.add_machines(alloc, tally, order)?;
         self.call_roll(tally)?;
         self.add_waiting(knowledge, tally)?;
-        Ok(machines)
+        Ok(places)
     }
 
     // The instance of what was added, and what its numbers stand for.
-    fn finish(
-        self,
-        alloc: Global,
-        machines: Vec<MachineId>,
-    ) -> Result<(Instance, Names), OutOfMemory> {
+    fn finish(self, alloc: Global, places: Vec<usize>) -> Result<(Instance, Names), OutOfMemory> {
         let (instance, tasks) = self.draft.finish(alloc)?;
         let names = Names {
             numbers: self.numbers,
-            machines,
+            places,
             requests: self.requests,
             tasks,
             holders: self.holders,
@@ -132,23 +129,23 @@ impl Listing {
         Ok((instance, names))
     }
 
-    // Adds the machines in this order, and answers them by number.
+    // Adds the machines in this order, and answers their places by number.
     fn add_machines(
         &mut self,
         alloc: Global,
         tally: &Tally,
         order: &[(u128, usize)],
-    ) -> Result<Vec<MachineId>, OutOfMemory> {
-        let mut machines = Vec::with_capacity(alloc, order.len())?;
+    ) -> Result<Vec<usize>, OutOfMemory> {
+        let mut places = Vec::with_capacity(alloc, order.len())?;
         for (_, at) in order {
-            if let Some((machine, open)) = tally.machines.pairs().get(*at) {
+            if let Some((_, open)) = tally.machines.pairs().get(*at) {
                 let load = open.load.min(MOST_LOAD) as i64;
                 self.draft
                     .add_machine(load, spare_of(open), i64::from(open.slots))?;
-                machines.push(*machine)?;
+                places.push(*at)?;
             }
         }
-        Ok(machines)
+        Ok(places)
     }
 
     // Adds the held tasks, and collects the requests of those that wait.

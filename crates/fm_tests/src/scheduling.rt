@@ -7,6 +7,7 @@ mod flow;
 mod following;
 mod net;
 mod networks;
+mod node_guesses;
 mod policy;
 mod round;
 mod tally;

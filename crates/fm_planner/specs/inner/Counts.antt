@@ -1,8 +1,9 @@
 -- How many moves go where, counted.
-use Rattle.std.specs.Prelude.{◌≡◌, ℕ, ◌+◌, cond, List, Option, Some, None, count_by, unwrap_or}
+use Rattle.std.specs.Prelude.{◌≡◌, ℕ, ◌+◌, ◌==◌, cond, List, Option, Some, None, count_by, unwrap_or}
 use Rattle.std.specs.Ordering.{nat_cmp}
 use Rattle.std.specs.declared.cmp.Ordering.{Ordering}
 use Rattle.std.specs.BTreeMap.{BTreeMap, get}
+use Rattle.fm_records.specs.Options.{passes}
 use Rattle.fm_records.specs.Orders.{attempt_cmp}
 use Rattle.fm_records.specs.Table.{Table}
 use Rattle.fm_records.specs.Facts.{holds}
@@ -40,8 +41,8 @@ pub record AreCounts (k : Table) (moves : List (ℕ × Way)) (counts : Counts) :
   pub arriving : (m : ℕ) → arriving_in counts m ≡ count_by (takes_slot m) moves
   pub leaving : (m : ℕ) → leaving_in counts m ≡ count_by (λ w. holds k m w.0) moves
 
--- one move more is counted
-pub record CountsMore (k : Table) (move : ℕ × Way) (old new : Counts) : Type 0 where
-  pub pairs : (r m : ℕ) → pairs_in new r m ≡ pairs_in old r m + cond (goes_by r m move) 1 0
-  pub arriving : (m : ℕ) → arriving_in new m ≡ arriving_in old m + cond (takes_slot m move) 1 0
-  pub leaving : (m : ℕ) → leaving_in new m ≡ leaving_in old m + cond (holds k m move.0) 1 0
+-- one move more is counted, of whatever task has this holder
+pub record CountsMore (holder : Option ℕ) (way : Way) (old new : Counts) : Type 0 where
+  pub pairs : (r m t : ℕ) → pairs_in new r m ≡ pairs_in old r m + cond (goes_by r m (t, way)) 1 0
+  pub arriving : (m t : ℕ) → arriving_in new m ≡ arriving_in old m + cond (takes_slot m (t, way)) 1 0
+  pub leaving : (m : ℕ) → leaving_in new m ≡ leaving_in old m + cond (passes (λ h. h == m) holder) 1 0

@@ -1,14 +1,11 @@
 use Rattle.std.proofs.Common.{◌≡◌, ◌∙◌, ◌<◌, ◌^◌, ℕ, List, sym, subst, rules, arith}
 use Rattle.std.specs.Prelude.{slice_index}
-use Rattle.fm_lattice.specs.Maps.{IsRising}
 use Rattle.fm_net.specs.declared.node.Node.{Node}
-use Rattle.fm_net.specs.Nodes.{node_cmp}
 use Rattle.fm_certificate.specs.Totals.{Entry, IsTotalled}
 use Rattle.fm_cycles.specs.declared.indexed_arcs.IndexedArc.{IndexedArc}
 use Rattle.fm_indexed.specs.Numbered.{NetArc, AreArcsOf}
 use Rattle.fm_indexed.specs.inner.Named.{named_units, units_by, entered_by}
 use Rattle.fm_indexed.proofs.Naming.{by_names}
-use Rattle.fm_indexed.proofs.Entered.{entered_rise}
 use Rattle.fm_indexed.proofs.Totalling.{totalled}
 use Rattle.fm_indexed.proofs.to_named.flow_of.Goals as goal
 
@@ -22,8 +19,8 @@ entered_are c =
     let sums : c.deref-2.result.now ≡ c.in_ok-sums.sums.items = search rules in
     c.in_ok-entered.ensures ∙ (λ i. entered_by (c.requires.nodes i) (sums i))
 
-pub of-requires-clause-totalled : goal.of-requires-clause-totalled
-of-requires-clause-totalled c =
+pub of-requires : goal.of-requires
+of-requires c =
     let net = c.args.network.now in
     let arcs : c.deref.result.now ≡ c.args.numbered.now.arcs.items = search rules in
     let entries = entries_are net.nodes c.args.nodes.now net.arcs c.args.numbered.now.arcs.items c.deref.result.now c.args.units.now c.in_ok-entries.entries.items c.requires.nodes arcs c.requires.numbered.of_arcs c.in_ok-entries.ensures in
@@ -32,13 +29,8 @@ of-requires-clause-totalled c =
     subst (λ (es : List Entry). IsTotalled es c.in_ok-entered.entered.items) (sym entries)
     (subst (λ (entered : List (Node × ℕ)). IsTotalled (named_units net.arcs c.args.units.now) entered) (sym (entered_are c)) both)
 
-pub of-requires-clause-rises : goal.of-requires-clause-rises
-of-requires-clause-rises c =
-    subst (λ (entered : List (Node × ℕ)). IsRising node_cmp entered) (sym (entered_are c))
-    (entered_rise c.args.network.now.nodes c.in_ok-sums.sums.items c.known.ensures.nodes_rise)
-
 pub returns : goal.returns
 returns c =
     let net = c.args.network.now in
     let arcs : c.deref.result.now ≡ c.args.numbered.now.arcs.items = search rules in
-    c.in_ok-flow.ensures ∙ entries_are net.nodes c.args.nodes.now net.arcs c.args.numbered.now.arcs.items c.deref.result.now c.args.units.now c.in_ok-entries.entries.items c.requires.nodes arcs c.requires.numbered.of_arcs c.in_ok-entries.ensures
+    c.of.ensures ∙ entries_are net.nodes c.args.nodes.now net.arcs c.args.numbered.now.arcs.items c.deref.result.now c.args.units.now c.in_ok-entries.entries.items c.requires.nodes arcs c.requires.numbered.of_arcs c.in_ok-entries.ensures

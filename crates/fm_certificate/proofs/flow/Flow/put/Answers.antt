@@ -15,7 +15,7 @@ insert-requires-clause-exact c = ends_exact
 pub change-requires-clause-part : goal.change-requires-clause-part
 change-requires-clause-part c =
     let was : c.unwrap_or-old.result ≡ units_on (c.args.from, c.args.to) c.self.inside.units.items = c.unwrap_or-old.ensures ∙ ap (λ o. unwrap_or o 0) c.in_ok-insert.ensures.old ∙ or_zero (lookup ends_cmp (c.args.from, c.args.to) c.self.inside.units.items) in
-    part_of c.self.inside.units.items (c.args.from, c.args.to) c.unwrap_or-old.result c.make_room.new.totals.entries target was (c.in_ok-make_room.ensures.same c.args.to ∙ c.self.invariant.enters c.args.to)
+    part_of c.self.inside.units.items (c.args.from, c.args.to) c.unwrap_or-old.result c.make_room.new.totals.items target was (c.in_ok-make_room.ensures.same c.args.to ∙ c.self.invariant.enters c.args.to)
 
 pub change-requires-clause-fits : goal.change-requires-clause-fits
 change-requires-clause-fits c =
@@ -26,11 +26,11 @@ pub invariant_of-self-2 : goal.invariant_of-self-2
 invariant_of-self-2 c =
     let old = c.self.inside.units.items in
     let was : c.unwrap_or-old.result ≡ units_on (c.args.from, c.args.to) old = c.unwrap_or-old.ensures ∙ ap (λ o. unwrap_or o 0) c.in_ok-insert.ensures.old ∙ or_zero (lookup ends_cmp (c.args.from, c.args.to) c.self.inside.units.items) in
-    let came : (n : Node) → total_in c.change.new.totals.entries n + cond (same_node c.args.to n) c.unwrap_or-old.result 0 ≡
-    total_in c.self.inside.entering.entries n + cond (same_node c.args.to n) c.args.units 0 = λ n. c.change.ensures n ∙ ap
+    let came : (n : Node) → total_in c.change.new.totals.items n + cond (same_node c.args.to n) c.unwrap_or-old.result 0 ≡
+    total_in c.self.inside.entering.items n + cond (same_node c.args.to n) c.args.units 0 = λ n. c.change.ensures.totals n ∙ ap
     (λ t. t + cond (same_node c.args.to n) c.args.units 0) (c.in_ok-make_room.ensures.same n) in
     rw (c.in_ok-insert.ensures.ok)
-    (flow_put old c.self.inside.entering.entries c.change.new.totals.entries (c.args.from, c.args.to) c.args.units c.unwrap_or-old.result c.self.invariant (omega arith) was came)
+    (flow_put old c.self.inside.entering.items c.change.new.totals.items (c.args.from, c.args.to) c.args.units c.unwrap_or-old.result c.self.invariant c.change.ensures.rises (omega arith) was came)
 
 pub returns-clause-ok : goal.returns-clause-ok
 returns-clause-ok c = rw (← c.self.view_is) c.in_ok-insert.ensures.ok

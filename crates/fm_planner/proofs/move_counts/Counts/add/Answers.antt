@@ -13,11 +13,9 @@ count-requires c = λ q. c.requires.pairs q.0 q.1
 pub returns : goal.returns
 returns c =
     let old = c.args.self.now in
-    let k = c.args.knowledge.now in
-    let t = c.args.task in
     let w = c.args.way.now in
     record {
-      pairs = λ r m. c.in_ok-count.ensures (r, m) ∙ ap (λ b. pairs_in old r m + cond b 1 0) (ap (passes (λ (p : ℕ × ℕ). is_at (attempt_cmp p) (r, m))) c.pair_of-pair.ensures ∙ pair_counts r m t w);
-      arriving = λ m. c.in_ok-count-2.ensures m ∙ ap (λ b. arriving_in old m + cond b 1 0) (ap (passes (λ (p : ℕ). is_at (nat_cmp p) m)) c.machine_of-machine.ensures ∙ machine_counts m t w);
-      leaving = λ m. c.in_ok-count-3.ensures m ∙ ap (λ b. leaving_in old m + cond b 1 0) (ap (passes (λ (p : ℕ). is_at (nat_cmp p) m)) c.holder-holder.ensures ∙ holder_counts k m t);
+      pairs = λ r m t. c.in_ok-count.ensures (r, m) ∙ ap (λ b. pairs_in old r m + cond b 1 0) (ap (passes (λ (p : ℕ × ℕ). is_at (attempt_cmp p) (r, m))) c.pair_of-pair.ensures ∙ pair_counts r m t w);
+      arriving = λ m t. c.in_ok-count-2.ensures m ∙ ap (λ b. arriving_in old m + cond b 1 0) (ap (passes (λ (p : ℕ). is_at (nat_cmp p) m)) c.machine_of-machine.ensures ∙ machine_counts m t w);
+      leaving = λ m. c.in_ok-count-3.ensures m ∙ ap (λ b. leaving_in old m + cond b 1 0) (holder_counts m c.args.holder);
     }

@@ -2,8 +2,8 @@ use Rattle.std.proofs.Common.{◌≡◌, true, false, sym, ◌∙◌}
 use Rattle.std.specs.declared.cmp.Ordering.TheVariants.{Equal}
 use Rattle.fm_net.specs.Nodes.{node_cmp}
 use Rattle.fm_dimacs.proofs.Placed.{at_place}
-use Rattle.fm_dimacs.proofs.dump.id_at.Goals as goal
-use Rattle.fm_dimacs.proofs.dump.id_at.Goals.{in-Equal, in_default-matches}
+use Rattle.fm_dimacs.proofs.node_ids.id_at.Goals as goal
+use Rattle.fm_dimacs.proofs.node_ids.id_at.Goals.{in-Equal, in_default-matches}
 
 pub returns-in-Some : goal.returns-in-Some
 returns-in-Some c =
