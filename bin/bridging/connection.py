@@ -1,9 +1,11 @@
 """A connection to an MQTT broker: made, kept, and made again after it was lost, by paho-mqtt."""
+import contextlib
 import random
 import socket
 import ssl
 import threading
 import time
+from collections.abc import Callable
 from typing import Any, Optional
 
 import paho.mqtt.client as paho
@@ -15,6 +17,21 @@ from bridging.endings import BROKER_REFUSES, NO_BROKER, Failure
 KEEP_ALIVE = 20
 FIRST_DELAY, LAST_DELAY = 0.25, 30.0
 QOS = 1
+
+
+class Client(paho.Client):
+    """A client that tells why TLS was broken off, as if the broker wants a certificate, where paho's own would fail in its thread."""
+
+    def __init__(self, broken: Callable[[int, str], None], connection: int, **named: Any) -> None:
+        super().__init__(userdata=connection, **named)
+        self._broken, self._connection = broken, connection
+
+    def loop_forever(self, *given: Any, **named: Any) -> Any:
+        try:
+            return super().loop_forever(*given, **named)
+        except ssl.SSLError as why:
+            self._broken(self._connection, f"no TLS: {why.reason or why}")
+            return paho.MQTT_ERR_CONN_LOST
 
 
 class Connection:
@@ -98,14 +115,14 @@ class Connection:
         self._client.loop_start()
 
     def _made(self) -> paho.Client:
-        named: dict[str, Any] = {"client_id": self._name, "userdata": self.connection, "reconnect_on_failure": False}
+        named: dict[str, Any] = {"client_id": self._name, "reconnect_on_failure": False}
         if self._access.version == 5:
             named["protocol"] = paho.MQTTv5
         else:
             named.update(protocol=paho.MQTTv311, clean_session=True)
         if hasattr(paho, "CallbackAPIVersion"):
             named["callback_api_version"] = paho.CallbackAPIVersion.VERSION1
-        client = paho.Client(**named)
+        client = Client(self._broken, self.connection, **named)
         if self._access.user is not None:
             client.username_pw_set(self._access.user, self._access.password)
         if self._access.is_tls:
@@ -146,7 +163,9 @@ class Connection:
         client = self._client
         if client is None:
             return
-        client.disconnect()
+        with contextlib.suppress(OSError):
+            # of TLS that was not agreed on there is no end to tell
+            client.disconnect()
         opened = client.socket()
         if opened is not None:
             try:
@@ -188,6 +207,11 @@ class Connection:
 
     def _lost(self, _client: paho.Client, connection: int, _code: Any, *_more: Any) -> None:
         if connection == self.connection:
+            self._over.set()
+
+    def _broken(self, connection: int, why: str) -> None:
+        if connection == self.connection:
+            self.refusal = why
             self._over.set()
 
     def _subscribed(self, _client: paho.Client, _data: Any, _message: int, granted: Any, *_more: Any) -> None:
