@@ -7,12 +7,12 @@ import os
 import pathlib
 import stat
 import subprocess
-import tempfile
 import time
 
 import brokers
 import refusing
 import stored
+import stores_left
 from bridging import coordinator, follower, stores as stores_of
 from brokers import QUICK, Bridge, told as tell
 from clustered import agree, cluster, ended, graph_of, is_refused, refused, running, told_to
@@ -36,8 +36,8 @@ def anew(broker):
 @contextlib.contextmanager
 def alone():
     """A broker, and a folder for what bridges keep."""
-    with tempfile.TemporaryDirectory() as folder, running("", []) as (broker, _):
-        yield broker, pathlib.Path(folder)
+    with stores_left.folder() as folder, running("", []) as (broker, _):
+        yield broker, folder
 
 
 def said_of(bridge, event):
@@ -127,8 +127,8 @@ def counted(program):
     beginning leave one, of all that was known, which is no news."""
     told, waits = list(cluster(12)), follower.Waits(30, 30, lambda: float("inf"))
     lines = [tell(1, op)[:-1] for op in told]
-    with tempfile.TemporaryDirectory() as folder:
-        store = stores_of.Store(pathlib.Path(folder) / "store", "test", print)
+    with stores_left.folder() as folder:
+        store = stores_of.Store(folder / "store", "test", print)
         begun = lambda: contextlib.closing(coordinator.Coordinator(program, 1, 1000, waits, store))
         fits = lambda one, count, news: (one.deltas, one.own_news(), one.tell([b'{"at":1,"ask":"end"}'])[0]) == (
             count, news, [b"end 0 %d\nok\n" % count])

@@ -11,6 +11,7 @@ given. Ends in a line 'N passed, M failed'. If a Debian package is missing, says
 `skipped`. All traffic is on the loopback address.
 """
 import argparse
+import itertools
 import os
 import pathlib
 import shutil
@@ -30,6 +31,7 @@ import operated
 import outlived
 import own_rounds
 import relayed
+import stores_left
 from bridging import claims, follower, lines as lines_of, mailbox, packets, settings
 from brokers import QUICK, Bridge, Broker, told as tell, until
 from clustered import agree, cluster, ended, is_refused, refused, running, told_to
@@ -348,7 +350,7 @@ def main():
     passed = failed = 0
     for group in runnable(words.groups or GROUPS):
         began, before = time.monotonic(), passed + failed
-        for name, fine in all_tests(words.program, [group], words.kills):
+        for name, fine in itertools.chain(all_tests(words.program, [group], words.kills), stores_left.outcomes(words.program)):
             passed, failed = passed + fine, failed + (not fine)
             if not fine:
                 print("FAILED: " + name, flush=True)

@@ -5,7 +5,6 @@ tests/storing.c has calls to files fail, or kills the process at one of them, an
 import contextlib
 import json
 import os
-import pathlib
 import pwd
 import random
 import re
@@ -13,7 +12,6 @@ import resource
 import shutil
 import signal
 import subprocess
-import tempfile
 import threading
 import time
 
@@ -22,6 +20,7 @@ import lined
 import refusing
 import stored
 from followed import answers_in as split
+from stores_left import folder, keep
 
 OPEN = b'{"coordinators":[1]}\n'
 LIST = b'{"at":1,"ask":"list","of":"tasks"}\n'
@@ -59,6 +58,7 @@ def torn_line(path):
 
 def known(program, path):
     """The tasks that are known by the store, in rising order."""
+    keep(path)
     told = torn_line(path)
     status, out, err = follow(program, path, OPEN + LIST)
     assert (status, err) == (0, told), (status, err, told)
@@ -74,12 +74,6 @@ def numbers(count):
 def answers_in(out):
     """The answers, one after another."""
     return split(out)[0]
-
-
-@contextlib.contextmanager
-def folder():
-    with tempfile.TemporaryDirectory() as made:
-        yield pathlib.Path(made)
 
 
 def alike(program):

@@ -15,6 +15,7 @@ import time
 import types
 
 import brokers
+import stores_left
 from bridging import descriptors, follower, lines as lines_of
 from brokers import QUICK, Bridge, Broker, told as tell, until
 from clustered import agree, cluster, is_refused, refused, running, told_to
@@ -329,7 +330,7 @@ for line in sys.stdin.buffer:
 def unknown_kinds(program):
     """A line of a kind that the bridge does not know, and the follower accepts, is answered, and what it changed is sent and kept."""
     told = list(cluster(11))
-    with tempfile.TemporaryDirectory() as folder, running(program, [2]) as (broker, (other,)):
+    with stores_left.folder() as folder, running(program, [2]) as (broker, (other,)):
         newer = made(folder, "newer", UNKNOWN_KINDS.format(program=str(program)))
         store = ["--store", f"{folder}/store"]
         with Bridge(broker.port, 1, *QUICK, *store, program=newer) as bridge:

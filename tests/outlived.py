@@ -17,6 +17,7 @@ import drawn
 import hostile
 import mqtt
 import reference
+import stores_left
 from brokers import QUICK, Bridge, Broker, told as tell, until
 from clustered import agree, cluster, ended, is_refused, refused, running, told_to
 
@@ -57,7 +58,7 @@ def rounds(program):
     """Rounds at several coordinators: all come to the same graph and the same winners, and a round that was answered
     outlasts a kill."""
     told = list(cluster(30))
-    with tempfile.TemporaryDirectory() as folder, running(program, [2, 3], "--refresh", "3600") as (broker, bridges):
+    with stores_left.folder() as folder, running(program, [2, 3], "--refresh", "3600") as (broker, bridges):
         store = ["--store", f"{folder}/store"]
         with Bridge(broker.port, 1, *QUICK, *store, "--state-interval", "3600", program=program) as bridge:
             yield "told", told_to([bridge], told)
@@ -78,7 +79,7 @@ def rounds(program):
 def rounds_alone(program):
     """What a round placed is in the store, with the machines that others told of: both are known if nobody else says them again."""
     told = list(cluster(20))
-    with tempfile.TemporaryDirectory() as folder, running(program, [2]) as (broker, (other,)):
+    with stores_left.folder() as folder, running(program, [2]) as (broker, (other,)):
         store = ["--store", f"{folder}/store"]
         with Bridge(broker.port, 1, *QUICK, *store, program=program) as bridge:
             yield "told of tasks and of machines", told_to([bridge], told[:1] + told[11:]) and told_to([other], told[1:11])
@@ -97,7 +98,7 @@ def rounds_alone(program):
 def sent_later(program):
     """What a store has that was not sent comes to who was there, though that one does not ask for states again."""
     told = list(cluster(30))
-    with tempfile.TemporaryDirectory() as folder, running(program, [2], "--refresh", "3600") as (broker, (other,)):
+    with stores_left.folder() as folder, running(program, [2], "--refresh", "3600") as (broker, (other,)):
         words = [*QUICK, "--store", f"{folder}/store"]
         with Bridge(broker.port, 1, *words, program=program) as bridge:
             yield "told and sent", told_to([bridge], told[:20]) and agree([bridge, other], told[:20])
@@ -184,7 +185,7 @@ def kills(program, count=KILLS):
     though it is never told again."""
     # enough lines for each time, since a bridge that has nothing to answer would be waited for in vain
     told, chance, place, rate = list(cluster(40 * count)), random.Random("kills"), 0, []
-    with tempfile.TemporaryDirectory() as folder, running(program, [2]) as (broker, (other,)):
+    with stores_left.folder() as folder, running(program, [2]) as (broker, (other,)):
         # the follower of one that was killed alone may have the store for a while
         words = [*QUICK, "--claim-wait", "0.1", "--connect-wait", str(brokers.PATIENCE), "--store", f"{folder}/store"]
         for turn in range(count):

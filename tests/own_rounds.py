@@ -11,6 +11,7 @@ import types
 
 import brokers
 import hostile
+import stores_left
 from bridging import coordinator, follower, packets, rounds as rounds_of, settings, telling
 from brokers import QUICK, Bridge, told as tell, until
 from clustered import agree, ended, running, told_to
@@ -362,7 +363,7 @@ def rounds_kept(program):
 def killed(program):
     """A bridge is killed as soon as another one hears of its rounds; the broker forgets all. It knows by its store what was heard."""
     told = list(tasks(40, [1]))
-    with tempfile.TemporaryDirectory() as folder, running(program, [2]) as (broker, (other,)):
+    with stores_left.folder() as folder, running(program, [2]) as (broker, (other,)):
         store = ["--store", f"{folder}/store"]
         with Bridge(broker.port, 1, *QUICK, *store, "--rounds", "0.3", "--each", "1", program=program) as bridge:
             yield "told", told_to([bridge], [*told, *machines()])

@@ -3,13 +3,17 @@ docs/formats.md alone, with the packets of tests/reference.py."""
 import os
 import pathlib
 import pwd
+import re
 import shutil
 import subprocess
 import tempfile
 
 import reference
+import store_reader
 import stored
+import stores_left
 
+ROOT = pathlib.Path(__file__).resolve().parent.parent
 MOST_IN_LINE = 33_554_422
 UNUSABLE = b"firmament: refusal 22, since the file of the store cannot be used\n"
 MOST_LABEL, MOST_LISTED = 200, 64
@@ -164,7 +168,8 @@ def others():
 def answers(program, path, data, command):
     path.write_bytes(data)
     done = subprocess.run([program, command, path], stdin=subprocess.DEVNULL, capture_output=True, timeout=120)
-    return (done.returncode, done.stdout, done.stderr) == wanted(command, data) and path.read_bytes() == data
+    seen = done.returncode, done.stdout, done.stderr
+    return seen == wanted(command, data) and stores_left.is_as_read(data, command, seen) and path.read_bytes() == data
 
 
 def told_again(program, data):
@@ -199,6 +204,18 @@ def halved(program, path):
         yield name, (done.returncode, done.stdout, done.stderr) == (0, text, b"")
 
 
+def by_page(small):
+    """The reader of tests/store_reader.py finds what the page shows of a store, and an answer that says anything else is noticed."""
+    data = small + stored.frame(FIRST)[:-1]
+    shown = re.search(r"(?:    .*\n)*    head 8 7 2 1 2 west\n(?:    .*\n)*", (ROOT / "docs/store.md").read_text())[0]
+    listed_there = shown.replace("    ", "").encode()
+    yield "the page's example", b"".join(line + b"\n" for line in store_reader.record_lines(store_reader.read(data))) == listed_there
+    for command, text in (("records", listed_there), ("recover", recovered(data))):
+        texts = text, text[:-1], b"", text + text, text.replace(b"1", b"2"), text.replace(b"0", b"3")
+        seen = [*((0, each, b"") for each in texts), (8, text, b""), (0, text, b"firmament: refusal 21 at byte 329\n")]
+        yield "what is noticed of " + command, [stores_left.is_as_read(data, command, each) for each in seen] == [True] + [False] * 7
+
+
 def as_nobody():
     """A process that may read only what everyone may."""
     if os.getuid() == 0:
@@ -227,6 +244,7 @@ def unusable(program, folder):
 
 def all_tests(program):
     small = stored.store("west", [1, 2], [FIRST, packet(2, 0)])
+    yield from by_page(small)
     with tempfile.TemporaryDirectory() as folder:
         folder = pathlib.Path(folder)
         folder.chmod(0o755)

@@ -12,7 +12,7 @@ import pathlib
 import sys
 
 MAGIC = b"FMSTORE1"
-LONGEST_LABEL = 200
+LONGEST_LABEL, MOST_LISTED = 200, 64
 # what a frame has before its record, and in all beside it
 BEFORE_RECORD, BESIDE_RECORD = 48, 49
 MILLION, BILLION = 10 ** 6, 10 ** 9
@@ -152,14 +152,14 @@ def framed(data, place):
 
 def head_of(record):
     """The coordinators and the label that a record has as a head, or None if it is no head."""
-    count = record[0] if record else 0
+    count = record[0] if record else MOST_LISTED + 1
     numbers, label = tuple(record[1:1 + count]), record[1 + count:]
-    fits = 1 <= count <= 64 and len(set(numbers)) == count and all(1 <= number <= 64 for number in numbers)
+    fits = count <= MOST_LISTED and len(set(numbers)) == count and all(1 <= number <= 64 for number in numbers)
     return (numbers, label) if fits and len(label) <= LONGEST_LABEL else None
 
 
 def read(data):
-    """The store that the bytes of a file have. One without a head, since it is unfinished or none, has no coordinators."""
+    """The store that the bytes of a file have. One without a head, since it is unfinished or none, has no label."""
     if not data.startswith(MAGIC):
         front = data.rstrip(b"\0")
         return Store(None, (), [], "torn" if MAGIC.startswith(front) else "damaged", 0)
@@ -190,7 +190,7 @@ def knowledge(store):
 
 def record_lines(store):
     """The lines of `firmament records`."""
-    if store.coordinators:
+    if store.label is not None:
         shown = bytes(63 if byte < 32 or byte == 127 else byte for byte in store.label)
         length = 1 + len(store.coordinators) + len(store.label)
         words = [b"%d" % number for number in (len(MAGIC), length, len(store.coordinators), *store.coordinators)]
