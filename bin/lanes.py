@@ -22,7 +22,7 @@ OF_A_JOB, OF_RECKONED = 0.25, 0.6
 # the jobs of the first proof if its chain would take longest with one, while other proofs keep the processors busy
 FIRST = 2
 # the tasks that mostly wait: the tests with a broker take a minute and a half of a processor in four, and those on Slurm 20 s in two
-IDLE = {("tests/run", group) for group in ("brokered", "brokered_lasting", "brokered_rounds", "slurm", "slurm_standby", "slurm_parted")}
+IDLE = {("tests/run", group) for group in ("brokered", "brokered_lasting", "brokered_rounds", "security", "slurm", "slurm_standby", "slurm_parted")}
 
 
 def at_priority(lower, call, *given):
