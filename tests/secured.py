@@ -32,6 +32,7 @@ from brokers import QUICK, Bridge, Broker, told as tell, until
 from clustered import agree, cluster, ended, is_refused, refused, running, told_to
 from forged import greatest, lasting, op
 from outlived import packet_of
+from slurming import locks as file_locks
 
 USERS = {"one": 1, "two": 2, "three": 3}
 KINDS = "deltas", "state", "digest", "hello", "slurm"
@@ -94,13 +95,15 @@ def can_guard():
 
 @contextlib.contextmanager
 def guarded():
-    """The broker of examples/brokered, and what makes a client of a user. Beside the users of the example one may read and write all."""
+    """The broker of examples/brokered, and what makes a client of a user. Beside the users of the example one may read and write all, and
+    one only read."""
     with tempfile.TemporaryDirectory() as folder:
         broker = Broker(folder)
         relayed.prepare(pathlib.Path(folder), broker, (ROOT / "examples/brokered/mosquitto.conf").read_text())
-        subprocess.run(["mosquitto_passwd", "-b", f"{folder}/passwords", "all", SECRET], check=True, capture_output=True)
+        for name in "all", "reader":
+            subprocess.run(["mosquitto_passwd", "-b", f"{folder}/passwords", name, SECRET], check=True, capture_output=True)
         with open(f"{folder}/rules", "a") as rules:
-            rules.write("\nuser all\ntopic readwrite #\ntopic read $SYS/#\n")
+            rules.write("\nuser all\ntopic readwrite #\ntopic read $SYS/#\n\nuser reader\ntopic read fetohamu/blue/#\n")
         with broker, contextlib.ExitStack() as stack:
             yield broker, lambda name, password=SECRET: stack.enter_context(User(broker.port, f"{folder}/certs/broker.pem", name, password))
 
@@ -112,7 +115,7 @@ def rules(_program):
     with guarded() as (_, user):
         watcher, marker = user("all"), user("all")
         watcher.subscribe("#")
-        for name, number in USERS.items():
+        for name, number in (*USERS.items(), ("reader", 0)):
             client = user(name)
             topics = {f"fetohamu/blue/{kind}/{other}": other == number for kind in KINDS for other in USERS.values()}
             topics.update((topic, False) for topic in (
@@ -131,7 +134,7 @@ def reading(user):
     """Each user reads all of its cluster, and nothing else."""
     writer = user("all")
     blue = [f"fetohamu/blue/{kind}/{number}" for kind in KINDS for number in (*USERS.values(), 64)]
-    for name, wanted in (*((name, set(blue)) for name in USERS), ("all", {*blue, "fetohamu/green/state/1", "other"})):
+    for name, wanted in (*((name, set(blue)) for name in (*USERS, "reader")), ("all", {*blue, "fetohamu/green/state/1", "other"})):
         client = user(name)
         client.subscribe("#")
         client.subscribe("$SYS/broker/version")
@@ -294,7 +297,7 @@ def known_at(bridge):
 
 # the way to the broker
 
-def certificate(folder, name, *more):
+def certificate(folder, name, *more, days=2):
     """A certificate of the authority of the folder, which is made first."""
     def openssl(*words):
         subprocess.run(["openssl", *words], cwd=folder, check=True, capture_output=True)
@@ -302,22 +305,24 @@ def certificate(folder, name, *more):
         openssl(*"req -x509 -newkey rsa:2048 -nodes -days 2 -subj /CN=authority -keyout ca.key -out ca.pem".split())
     openssl(*f"req -newkey rsa:2048 -nodes -subj /CN={name} -keyout {name}.key -out {name}.csr".split())
     (folder / f"{name}.ext").write_text("\n".join(["basicConstraints=CA:FALSE", *more, ""]))
-    openssl(*f"x509 -req -in {name}.csr -CA ca.pem -CAkey ca.key -CAcreateserial -days 2 -extfile {name}.ext -out {name}.pem".split())
+    openssl(*f"x509 -req -in {name}.csr -CA ca.pem -CAkey ca.key -CAcreateserial -days {days} -extfile {name}.ext -out {name}.pem".split())
 
 
 def certificates(program):
-    """A broker with the certificate of another host is not spoken to; and clients may be told apart by certificates."""
+    """A broker with the certificate of another host, or one that is over, is not spoken to; clients may be told apart by certificates."""
     if not can_guard():
         return
     with tempfile.TemporaryDirectory() as made:
         folder = pathlib.Path(made)
         certificate(folder, "here", "subjectAltName=IP:127.0.0.1")
         certificate(folder, "elsewhere", "subjectAltName=DNS:elsewhere.example,IP:127.0.0.2")
+        certificate(folder, "over", "subjectAltName=IP:127.0.0.1", days=-1)
         certificate(folder, "one")
         trusts = ["--ca", f"{folder}/ca.pem", "--connect-wait", "2"]
-        with Broker(folder, ["allow_anonymous true", f"certfile {folder}/elsewhere.pem", f"keyfile {folder}/elsewhere.key"]) as broker:
-            found = refused(broker.port, "--number", "1", *trusts, program=program)
-            yield "a certificate of another host: %r" % found[2], is_refused(found, 13, b"TLS")
+        for name, told in ("elsewhere", "of another host"), ("over", "that is over"):
+            with Broker(folder, ["allow_anonymous true", f"certfile {folder}/{name}.pem", f"keyfile {folder}/{name}.key"]) as broker:
+                found = refused(broker.port, "--number", "1", *trusts, program=program)
+                yield "a certificate %s: %r" % (told, found[2]), is_refused(found, 13, b"CERTIFICATE_VERIFY_FAILED")
         (folder / "rules").write_text("user one\ntopic read fetohamu/test/#\ntopic write fetohamu/test/+/1\n")
         (folder / "rules").chmod(0o600)
         lines = [f"certfile {folder}/here.pem", f"keyfile {folder}/here.key", f"cafile {folder}/ca.pem", "require_certificate true",
@@ -334,8 +339,8 @@ def certificates(program):
 
 def passwords(program):
     """A password is in no command line and no environment of a process, and goes to the broker as it is without TLS."""
-    with tempfile.TemporaryDirectory() as folder, socket.create_server(("127.0.0.1", 0)) as door:
-        secret = pathlib.Path(folder) / "secret"
+    with stores_left.folder() as folder, socket.create_server(("127.0.0.1", 0)) as door:
+        secret = folder / "secret"
         secret.write_text(SECRET + "\n")
         secret.chmod(0o600)
         door.settimeout(60)
@@ -414,6 +419,36 @@ def files(program):
             yield "a packet that was added by hand is known", agree([bridge], [*cluster(3), forged]) and ended([bridge])
 
 
+LOCKING = """
+import fcntl, os, sys
+os.setgroups([])
+os.setgid(int(sys.argv[2]))
+os.setuid(int(sys.argv[1]))
+fcntl.flock(os.open(sys.argv[3], os.O_RDONLY), fcntl.LOCK_EX | fcntl.LOCK_NB)
+"""
+
+
+def locks(_program):
+    """The file of an adapter's lock is the owner's alone, so another user cannot lock it."""
+    if os.getuid() != 0:
+        print("secured: who may lock a file is not tested, since this is not root")
+        return
+    nobody = pwd.getpwnam("nobody")
+    with tempfile.TemporaryDirectory() as folder:
+        os.chmod(folder, 0o755)
+        lock, before = file_locks.Lock(f"{folder}/lock"), os.umask(0)
+        try:
+            yield "it is made and locked", lock.take()
+        finally:
+            os.umask(before)
+        lock.release()
+        words = [sys.executable, "-c", LOCKING, str(nobody.pw_uid), str(nobody.pw_gid), lock.name]
+        done = subprocess.run(words, capture_output=True, timeout=60)
+        yield "another user cannot lock it: %r" % done.stderr[-60:], b"PermissionError" in done.stderr
+        yield "its owner can", lock.take()
+        lock.release()
+
+
 # the page
 
 # names of tests, and the file that has them if it is not this one
@@ -436,7 +471,7 @@ def cited(_program):
 
 
 GROUPS = {test.__name__: test for test in (
-    rules, accounts, numbers, adapters, members, lasting, anew, certificates, passwords, sockets, files, cited)}
+    rules, accounts, numbers, adapters, members, lasting, anew, certificates, passwords, sockets, files, locks, cited)}
 
 
 def all_tests(program, names=tuple(GROUPS)):

@@ -46,7 +46,8 @@ class Lock:
     def take(self) -> bool:
         """Whether this process has the lock now."""
         try:
-            file = os.open(self.name, os.O_RDWR | os.O_CREAT | os.O_CLOEXEC, 0o644)
+            # who may read a file may lock it, and so keep others from acting
+            file = os.open(self.name, os.O_RDWR | os.O_CREAT | os.O_CLOEXEC, 0o600)
         except OSError as why:
             raise Failure(LOCKED, f"the lock {self.name} cannot be made ({why.strerror})") from None
         try:
