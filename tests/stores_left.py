@@ -1,8 +1,9 @@
-"""The stores that tests leave: tests/store_reader.py reads each, and `firmament records` and `firmament recover` must say of it what that
-reader does. A test that has stores makes its folder by `folder`, and calls `keep` for what a store has on the way. Behind each group
-tests/run tells what came of its stores, as one more test."""
+"""The stores that tests leave. tests/store_reader.py reads each. `firmament records` and `firmament recover` must print what it finds, and
+a stream that opens the store must know that. A test that has stores makes its folder by `folder`, and calls `keep` for what a store has on
+the way. Behind each group tests/run tells what came of its stores, as one more test."""
 import contextlib
 import itertools
+import json
 import pathlib
 import subprocess
 import tempfile
@@ -49,13 +50,35 @@ def outcomes(program):
 
 def differing(program, data):
     """The commands that say of a store what the reader does not."""
-    with tempfile.NamedTemporaryFile() as file:
-        file.write(data)
-        file.flush()
+    with tempfile.TemporaryDirectory() as made:
+        path = pathlib.Path(made) / "store"
+        path.write_bytes(data)
         for command in ("records", "recover"):
-            done = subprocess.run([program, command, file.name], stdin=subprocess.DEVNULL, capture_output=True, timeout=120)
+            done = subprocess.run([program, command, path], stdin=subprocess.DEVNULL, capture_output=True, timeout=120)
             if not is_as_read(data, command, (done.returncode, done.stdout, done.stderr)):
                 yield command
+        store = store_reader.read(data)
+        # a file without a head, or without coordinators, has nothing that a stream could ask for
+        if store.coordinators and not is_opened(program, store, path):
+            yield "follow"
+
+
+def is_opened(program, store, path):
+    """Whether a stream that opens the store has coordinators which know what the reader found; or refuses it at the place of the damage."""
+    lines = [{"coordinators": list(store.coordinators)}, *({"at": number, "cut": {}} for number in store.coordinators)]
+    words = [program, "follow", f"--store={path}", b"--store-label=" + store.label]
+    before = path.read_bytes()
+    done = subprocess.run(words, input=b"".join(json.dumps(line).encode() + b"\n" for line in lines), capture_output=True, timeout=120)
+    if store.tail == "damaged":
+        seen = done.returncode, done.stdout, done.stderr
+        return seen == (8, b"", b"firmament: refusal 21 at byte %d\n" % store.place) and path.read_bytes() == before
+    said = b"firmament: the store was torn at byte %d, and is cut off there\n" % store.place if store.tail == "torn" else b""
+    known, nothing = store_reader.knowledge(store), store_reader.joined([])
+    answers = done.stdout.splitlines()
+    digits, ends = answers[1::2], [*answers[:1], *answers[2::2]]
+    found = [store_reader.decoded(bytes.fromhex(each.decode()))[2] for each in digits]
+    return (done.returncode, done.stderr) == (0, said) and set(ends) == {b"ok"} and found == [
+        known.get(number, nothing) for number in store.coordinators]
 
 
 def is_as_read(data, command, seen):
