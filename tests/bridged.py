@@ -48,7 +48,8 @@ def words(program):
     for wrong in ("--cut-count 0", "--refresh 0", "--broker a:b", "--broker :1", "--mqtt 4", "--ca /nowhere", "--key k",
                   "--password-file p", "--user u --password-file /nowhere", "--queue x", "more", "--clu a", "--rounds", "--rounds 0",
                   "--rounds -1", "--rounds x", "--rounds 86401", "--each 1", "--writers 1", "--rounds 1 --each 0",
-                  "--rounds 1 --each 4294967296", "--rounds 1 --writers 0", "--rounds 1 --writers 1,1", "--rounds 1 --writers 2,65"):
+                  "--rounds 1 --each 4294967296", "--longest-line 1000", "--listen p --longest-line 999",
+                  "--listen p --longest-line 67108865", "--rounds 1 --writers 0", "--rounds 1 --writers 1,1", "--rounds 1 --writers 2,65"):
         yield "the words %s" % wrong, is_refused(refused(1, "--number", "1", *wrong.split(), program=program), 2, b"")
     port = brokers.free_port()
     found = refused(port, "--number", "1", "--connect-wait", "0.5", program=program)
