@@ -311,6 +311,7 @@ def prepare(folder, broker, text):
     files = ["-keyout", folder / "certs/broker.key", "-out", folder / "certs/broker.pem"]
     subprocess.run([*made.split(), *files], check=True, capture_output=True)
     (folder / "secret").write_text("open sesame\n")
+    (folder / "secret").chmod(0o600)
     for place, name in enumerate(("one", "two", "three")):
         words = ["mosquitto_passwd", "-b", *([] if place else ["-c"]), folder / "passwords", name, "open sesame"]
         subprocess.run(words, check=True, capture_output=True)

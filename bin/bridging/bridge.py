@@ -475,6 +475,8 @@ def main(given: Sequence[str]) -> int:
         if not is_open(descriptor):
             os.open(os.devnull, os.O_RDONLY)
     telling = Telling(settings.number, settings.is_json)
+    for text in settings.access.warnings:
+        telling.say("exposed", text)
     try:
         # before signals only stop the bridge, since this may make a build
         program = settings.program or usual_program()
