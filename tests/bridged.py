@@ -16,11 +16,13 @@ import os
 import pathlib
 import shutil
 import signal
+import socket
 import subprocess
 import sys
 import tempfile
 import threading
 import time
+import types
 
 ROOT = pathlib.Path(__file__).resolve().parent.parent
 sys.path[:0] = [str(ROOT / "bench"), str(ROOT / "tests"), str(ROOT / "bin")]
@@ -32,7 +34,7 @@ import outlived
 import own_rounds
 import relayed
 import stores_left
-from bridging import claims, follower, lines as lines_of, mailbox, packets, settings
+from bridging import access, claims, follower, lines as lines_of, mailbox, packets, settings
 from brokers import QUICK, Bridge, Broker, told as tell, until
 from clustered import agree, cluster, ended, is_refused, refused, running, told_to
 
@@ -50,7 +52,8 @@ def words(program):
     for wrong in ("--cut-count 0", "--refresh 0", "--broker a:b", "--broker :1", "--mqtt 4", "--ca /nowhere", "--key k",
                   "--password-file p", "--user u --password-file /nowhere", "--queue x", "more", "--clu a", "--rounds", "--rounds 0",
                   "--rounds -1", "--rounds x", "--rounds 86401", "--each 1", "--writers 1", "--rounds 1 --each 0",
-                  "--rounds 1 --each 4294967296", "--rounds 1 --writers 0", "--rounds 1 --writers 1,1", "--rounds 1 --writers 2,65"):
+                  "--rounds 1 --each 4294967296", "--longest-line 1000", "--listen p --longest-line 999",
+                  "--listen p --longest-line 67108865", "--rounds 1 --writers 0", "--rounds 1 --writers 1,1", "--rounds 1 --writers 2,65"):
         yield "the words %s" % wrong, is_refused(refused(1, "--number", "1", *wrong.split(), program=program), 2, b"")
     port = brokers.free_port()
     found = refused(port, "--number", "1", "--connect-wait", "0.5", program=program)
@@ -69,6 +72,7 @@ def guarded(program, folder):
         return
     secret, rules, passwords = folder / "secret", folder / "rules", folder / "passwords"
     secret.write_text("open sesame\n")
+    secret.chmod(0o600)
     rules.write_text("user one\ntopic read fetohamu/test/#\ntopic write fetohamu/test/+/1\n")
     subprocess.run(["mosquitto_passwd", "-b", "-c", passwords, "one", "open sesame"], check=True, capture_output=True)
     for file in passwords, rules:
@@ -76,6 +80,7 @@ def guarded(program, folder):
     with Broker(folder, ["allow_anonymous false", f"password_file {passwords}", f"acl_file {rules}"]) as broker:
         wrong = folder / "wrong"
         wrong.write_text("open barley\n")
+        wrong.chmod(0o600)
         quick = ["--connect-wait", "1", "--claim-wait", "0.1"]
         for name, more in (("no user", []), ("no password", ["--user", "one"]),
                            ("a wrong password", ["--user", "one", "--password-file", wrong])):
@@ -293,6 +298,48 @@ def secrets(program):
             yield "no TLS with a broker that wants it", plain[0] in (12, 13) and plain[2].count(b"\n") == 1
 
 
+def exposed(_program):
+    """A password that others may read, or that goes to another host without TLS, is said in a line at the start, and refuses nothing."""
+    readable, sent = b"can be read by others than its owner (mode 0%o)", b"without TLS"
+    # no program, so that nothing goes to the host
+    begun = lambda *words: refused(brokers.free_port(), "--number", "1", *words, program="/nowhere/firmament")
+    with tempfile.TemporaryDirectory() as folder:
+        secret = pathlib.Path(folder) / "secret"
+        secret.write_text("open sesame\n")
+        for mode, host, more, wanted in (
+                (0o600, "127.0.0.1", "", []), (0o400, "[::1]", "", []), (0o640, "127.0.0.1", "", [readable % 0o640]),
+                (0o604, "127.0.0.1", "", [readable % 0o604]), (0o600, "localhost", "", []), (0o600, "192.0.2.1", "", [sent]),
+                (0o600, "[2001:db8::1]", "", [sent]), (0o600, "192.0.2.1", "--tls", []), (0o644, "192.0.2.1", "", [readable % 0o644, sent])):
+            secret.chmod(mode)
+            status, out, said = begun("--broker", host, "--user", "one", "--password-file", secret, *more.split())
+            *lines, last = said.splitlines()
+            fine = (status, out) == (11, b"") and b"no program" in last and len(lines) == len(wanted) and all(map(bytes.__contains__, lines, wanted))
+            yield "%o, %s %s: %r" % (mode, host, more, said), fine
+        yield "without a password nothing is said", is_refused(begun("--broker", "192.0.2.1"), 11, b"no program")
+    read, write = os.pipe()
+    os.write(write, b"open sesame\n")
+    os.close(write)
+    yield "a pipe is nobody else's", access.read_password(pathlib.Path(f"/dev/fd/{read}")) == ("open sesame", ())
+    os.close(read)
+    for addresses, fine in ((["127.0.0.1", "::1"], True), (["127.0.1.1"], True), (["192.0.2.1"], False), (["::1", "192.0.2.1"], False), ([], False)):
+        yield "a host of the addresses %s" % addresses, is_here_by(addresses) == fine
+
+
+def is_here_by(addresses):
+    """Whether a host that has these addresses is this machine, or one that has no address if there are none."""
+    found = types.SimpleNamespace(**vars(socket))
+
+    def resolved(_host, _port, **_how):
+        if not addresses:
+            raise socket.gaierror("no such name")
+        return [(0, 0, 0, "", (address, 0)) for address in addresses]
+    found.getaddrinfo, before, access.socket = resolved, access.socket, found
+    try:
+        return access.is_here("broker.example")
+    finally:
+        access.socket = before
+
+
 # the example, and what happens without packages
 
 def example(program):
@@ -316,10 +363,10 @@ def skipped(_program):
 
 
 GROUPS = {"parts": parts, "words": words, "lines": lines, "divided": divided, **outlived.GROUPS, **operated.GROUPS, **relayed.GROUPS,
-          **own_rounds.GROUPS, **bridge_stores.GROUPS, "signals": signals, "secrets": secrets, "example": example, "skipped": skipped}
+          **own_rounds.GROUPS, **bridge_stores.GROUPS, "signals": signals, "secrets": secrets, "exposed": exposed, "example": example, "skipped": skipped}
 
 # what the gate runs side by side, as groups of tests/run, since they mostly wait
-SIDES = {"brokered_lasting": (*operated.GROUPS, *relayed.GROUPS, "kills", "signals", "secrets", "example", "skipped"),
+SIDES = {"brokered_lasting": (*operated.GROUPS, *relayed.GROUPS, "kills", "signals", "secrets", "exposed", "example", "skipped"),
          "brokered_rounds": (*own_rounds.GROUPS, *bridge_stores.GROUPS)}
 SIDES["brokered"] = tuple(it for it in GROUPS if not any(it in side for side in SIDES.values()))
 

@@ -4,6 +4,7 @@ import contextlib
 import fcntl
 import os
 import pathlib
+import random
 import re
 import signal
 import socket
@@ -16,7 +17,8 @@ import types
 
 import brokers
 import stores_left
-from bridging import descriptors, follower, lines as lines_of
+import strict
+from bridging import descriptors, follower, lines as lines_of, sketches as sketches_of
 from brokers import QUICK, Bridge, Broker, told as tell, until
 from clustered import agree, cluster, is_refused, refused, running, told_to
 
@@ -277,6 +279,119 @@ def memory_kept(_program):
             yield "400 answers of 1.2 MB that are not confirmed: %d MB" % most, most < MOST_MEGABYTES
 
 
+# long lines
+
+# so many empty objects have 63 MB, and so much memory is left beside a line: the bridge has some 25 MB at rest, and looks at pieces
+OBJECTS, LINE_MEGABYTES, BESIDE_MEGABYTES = 21_000_000, 63, 45
+
+
+def heavy_lines(_program):
+    """A line of many small values takes little more memory than its bytes, and one of a client that is too long takes none."""
+    values = b"[%s{}]" % (b"{}," * OBJECTS)
+    with tempfile.TemporaryDirectory() as folder:
+        answering, path = made(folder, "answering", ANSWERING.format(size=1)), f"{folder}/door"
+        with one_bridge(answering, "--listen", path) as (_, run):
+            until(lambda: os.path.exists(path))
+            with Talk(path) as client:
+                client.ask(b'{"at":1,"x":%s}\n' % values)
+                yield "a client's line of 63 MB: %d MB" % peak(run), peak(run) < BESIDE_MEGABYTES
+                client.ask(b'{"at":1,"x":[%s{}]}\n' % (b"{}," * 340_000))
+                yield "one within its bound: %d MB" % peak(run), peak(run) < BESIDE_MEGABYTES + LINE_MEGABYTES
+                client.ask(b'{"at":1,"take":"46","x":%s}\n' % values)
+                yield "one that begins as a take: %d MB" % peak(run), peak(run) < BESIDE_MEGABYTES + LINE_MEGABYTES
+            for line in b'{"at":1,"x":%s}', b'{"at":1,"tell":{"job":{"more":%s}}}', b'{"ask":"check","line":{"renew":%s}}':
+                run.stdin.write(line % values + b"\n")
+                heard = b""
+                while not heard.endswith(b"ok\n"):
+                    heard += os.read(run.stdout.fileno(), 100)
+                yield "a line of 63 MB, %r: %d MB" % (line, peak(run)), peak(run) < BESIDE_MEGABYTES + LINE_MEGABYTES
+
+
+def longest_lines(program):
+    """A line of a client has a bound, which an option changes; a take and a line of standard input have that of the follower."""
+    usual, end = 1 << 20, b"end 0 0\nok\n"
+    asked = lambda size: b'{"at":1,"ask":"end"%s}\n' % (b" " * (size - 20))
+    digits = b"46" * usual
+    with tempfile.TemporaryDirectory() as folder, running(program, []) as (broker, _):
+        path = f"{folder}/door"
+        with Bridge(broker.port, 1, *QUICK, "--listen", path, program=program) as bridge:
+            bridge.ask({"ask": "version"})
+            with Talk(path) as client:
+                for name, line, answer in (
+                        ("as long as may be", asked(usual), end), ("a byte longer", asked(usual + 1), b"refusal 16\n"),
+                        ("much longer", asked(5 * usual), b"refusal 16\n"),
+                        ("a take", b'{"at":1,"take":"%s"}\n' % digits, b"refusal 6\n"),
+                        ("a take with its number behind", b' { "take" : "%s" , "at" : 1 } \n' % digits, b"refusal 6\n"),
+                        ("a take with more than digits", b'{"at":1,"take":"%s ","at":1}\n' % digits, b"refusal 16\n"),
+                        ("a take with more members", b'{"at":1,"take":"%s","at":1,"at":1}\n' % digits, b"refusal 16\n"),
+                        ("what only looks like one", b'{"at":1,"take":"46","x":"%s"}\n' % digits, b"refusal 16\n"),
+                        ("the next one", asked(100), end)):
+                    found = client.ask(line)
+                    yield "%s: %r" % (name, found[-40:]), found == answer
+            yield "standard input has no such bound", bridge.ask(asked(5 * usual)[:-1].decode()) == end
+        with Bridge(broker.port, 2, *QUICK, "--listen", path, "--longest-line", "1000", program=program) as bridge:
+            bridge.ask({"ask": "version"})
+            with Talk(path) as client:
+                yield "another bound", client.ask(asked(1001) + asked(1000), 2) == b"refusal 16\nrefusal 8\n"
+                yield "and a take", client.ask(b'{"at":2,"take":"%s"}\n' % digits) == b"refusal 6\n"
+
+
+def drawn_value(chance, depth=0):
+    """A JSON text, with spaces, and with brackets, quotation marks and backslashes in its strings."""
+    space = lambda: chance.choice(("", "", "", " ", "\t\r "))
+    kind = chance.random()
+    if depth > 4 or kind < 0.3:
+        return chance.choice(("1", "-2.5e3", "true", "null", "7" * 70))
+    if kind < 0.5:
+        return '"%s"' % "".join(chance.choice(("a", "{", "}", "[", "]", r"\"", r"\\", ",", ":", r"\u007b", "\u00e9")) for _ in range(chance.randrange(9)))
+    parts = [space() + drawn_value(chance, depth + 1) + space() for _ in range(chance.randrange(4))]
+    if kind < 0.75:
+        return "[%s]" % (",".join(parts) or space())
+    return "{%s}" % (",".join('%s"%s"%s:%s' % (space(), chance.choice(("a", r"\"", "}")), space(), part) for part in parts) or space())
+
+
+NAMES_DRAWN = ("at", "at", "at", "tell", "take", "round", "relieve", "ask", "ask", "of", "task", "job", "machine", "incarnation", "line", "line", "news", "mine", "cut", "cut",
+               "renew", "trim", "deliver", "coordinators", "x", r"\u0061t", r"t\u0065ll", "n" * 99)
+
+
+def drawn_line(chance, depth=0):
+    """An object with names that lines have, some of them twice."""
+    space = lambda: chance.choice(("", "", " ", "\n"))
+    members = []
+    for _ in range(chance.choice((0, 1, 2, 2, 2, 3, 4))):
+        name = chance.choice(NAMES_DRAWN)
+        value = drawn_line(chance, depth + 1) if name == "line" and depth < 2 else chance.choice(("{}", "{ }", drawn_value(chance)))
+        members.append('%s"%s"%s:%s%s%s' % (space(), name, space(), space(), value, space()))
+    return "%s{%s}%s" % (space(), ",".join(members) or space(), space())
+
+
+def sketches(_program):
+    """A line is of the kind that its value is, which another reader of JSON decodes, if it is not decoded here; in pieces of any size."""
+    chance, kinds = random.Random("sketches"), set()
+    sizes, short = (sketches_of.FIRST, sketches_of.PIECE), lines_of.SHORT
+    try:
+        lines_of.SHORT = -1
+        for count in range(6000):
+            sketches_of.FIRST, sketches_of.PIECE = chance.choice(((1, 1), (1, 2), (2, 3), (3, 8), (64, 1 << 16)))
+            line = drawn_line(chance).encode()
+            wanted, found = lines_of.kind_of_value(strict.read_json(line)), lines_of.kind_of(line)
+            kinds.add(found)
+            if found is not wanted:
+                yield "line %d: %r: %s, and not %s" % (count, line, found, wanted), False
+            # what is no JSON has some kind, or none
+            place = chance.randrange(len(line))
+            for broken in line[:place], line[:place] + b'"' + line[place:], line + b"}", line[:place] + line[place + 1:]:
+                if lines_of.kind_of(broken) not in lines_of.Kind:
+                    yield "a line that is broken: %r" % broken, False
+        yield "there are lines of all kinds: %d" % len(kinds), kinds == set(lines_of.Kind)
+        for depth in 127, 128:
+            line = b'{"at":1,"tell":%s1%s}' % (b'[{"a":' * (depth // 2), b"}]" * (depth // 2))
+            yield "a line of %d levels" % depth, lines_of.kind_of(line) is lines_of.Kind.TELL
+        yield "one that is too deep", lines_of.kind_of(b'{"at":1,"tell":%s}' % (b"[" * 9999 + b"]" * 9999)) is lines_of.Kind.STRANGE
+    finally:
+        (sketches_of.FIRST, sketches_of.PIECE), lines_of.SHORT = sizes, short
+
+
 # followers that hang, signals, and lines of a kind that the bridge does not know
 
 def hangs(program):
@@ -497,6 +612,6 @@ def deaf_clients(_program):
             yield "and it is said: %d, %r" % (status, said[-300:]), status == 0 and b'"cut_off"' in said
 
 
-GROUPS = {"looked_at": looked_at, "slow_readers": slow_readers, "unread_errors": unread_errors, "memory_kept": memory_kept, "hangs": hangs,
+GROUPS = {"looked_at": looked_at, "heavy_lines": heavy_lines, "longest_lines": longest_lines, "sketches": sketches, "slow_readers": slow_readers, "unread_errors": unread_errors, "memory_kept": memory_kept, "hangs": hangs,
           "unknown_kinds": unknown_kinds, "clients": clients, "unfinished": unfinished,
           "deaf_clients": deaf_clients}

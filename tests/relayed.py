@@ -14,6 +14,7 @@ import types
 import mqtt
 import outlived
 from bridging import claims, coordinator, digests as digests_of, packets
+from slurming import leases
 from brokers import QUICK, Bridge, Broker, told as tell, until
 from clustered import agree, cluster, ended, is_refused, refused, told_to
 
@@ -60,6 +61,45 @@ def ages(_program):
     yield "a turn that was not sent is not back", not mine.is_back()
     mine.hear(1, mine.ask(True))
     yield "and the next one comes back", mine.is_back()
+
+
+STRANGE_NUMBERS = ("NaN", "Infinity", "-Infinity", "1e999", "-1", "1e12", "1" + "0" * 400, '"7"', "true", "false", "[]", "{}")
+
+
+def strange_ages(_program):
+    """A claim whose age or time is no number that can be compared is none: who has a number keeps it, and nobody is denied it."""
+    for member, number in itertools.product(("age", "since"), STRANGE_NUMBERS):
+        said = {"token": "x", "turn": 1, "running": True, "since": 1, "age": 1, "new": True}
+        text = json.dumps({**said, member: 7077}).replace("7077", number).encode()
+        mine, lease = begun(10000, 500), leases.Lease(1)
+        lease.listen(0.0)
+        for name, hear in (("a bridge", lambda: mine.hear(1, text)), ("an adapter of Slurm", lambda: lease.hear(text, 1.0))):
+            try:
+                fine = hear() is NotImplemented
+            except ValueError:
+                fine = not mine.is_lost and not lease.is_taken(1.0)
+            yield "%s hears a claim whose %s is %s" % (name, member, number[:9]), fine
+    for number in ("0", "0.5", "3", "86400000"):
+        text = json.dumps({"token": "x", "turn": 1, "running": True, "since": 1, "age": 7077, "new": True}).replace("7077", number).encode()
+        yield "an age of %s" % number, claims.said_in(text).age == float(number)
+
+
+def kept_claims(program):
+    """A claim that the broker kept is not heard, whoever had it keep that: bridges begin, go on, and hear claims as before."""
+    forged = {"token": "x", "turn": 1, "running": True, "since": 1, "age": 1e9, "new": True}
+    told = list(cluster(9))
+    with tempfile.TemporaryDirectory() as folder, Broker(folder) as broker, mqtt.Client(broker.port) as client:
+        for number in 1, 2:
+            client.publish("fetohamu/test/hello/%d" % number, json.dumps(forged).encode(), retain=True)
+        with contextlib.ExitStack() as stack:
+            bridges = [stack.enter_context(Bridge(broker.port, number, *QUICK, program=program)) for number in (1, 2)]
+            yield "told", told_to(bridges, told) and agree(bridges, told)
+            time.sleep(3)
+            said = [[it["text"] for it in bridge.events() if it["event"] == "broker" and "hello/1" in it["text"]] for bridge in bridges]
+            yield "it is said once, with the topic: %s" % said, [len(texts) for texts in said] == [1, 1]
+            found = refused(broker.port, "--number", "1", "--claim-wait", "0.3", program=program)
+            yield "a number that is taken: %r" % found[2], is_refused(found, 14, b"taken by another bridge")
+            yield "ended", ended(bridges)
 
 
 def asked(claim, wall, steady):
@@ -271,6 +311,7 @@ def prepare(folder, broker, text):
     files = ["-keyout", folder / "certs/broker.key", "-out", folder / "certs/broker.pem"]
     subprocess.run([*made.split(), *files], check=True, capture_output=True)
     (folder / "secret").write_text("open sesame\n")
+    (folder / "secret").chmod(0o600)
     for place, name in enumerate(("one", "two", "three")):
         words = ["mosquitto_passwd", "-b", *([] if place else ["-c"]), folder / "passwords", name, "open sesame"]
         subprocess.run(words, check=True, capture_output=True)
@@ -295,5 +336,5 @@ def largest_message(limits):
             yield "a message of %d bytes, of which %d are kept" % (size, len(found)), (len(found) == size) == is_kept
 
 
-GROUPS = {"ages": ages, "retained": retained, "digests": digests, "sources": sources, "old_bridges": old_bridges,
+GROUPS = {"ages": ages, "strange_ages": strange_ages, "kept_claims": kept_claims, "retained": retained, "digests": digests, "sources": sources, "old_bridges": old_bridges,
           "configured": configured}

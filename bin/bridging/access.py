@@ -1,8 +1,11 @@
 """Where a broker is, what one says to be let in, and how the topics of a cluster are named."""
 import argparse
 import dataclasses
+import ipaddress
 import os
 import pathlib
+import socket
+import stat
 from collections.abc import Callable
 from typing import Any, Optional
 
@@ -13,7 +16,7 @@ PORT, TLS_PORT = 1883, 8883
 
 @dataclasses.dataclass(frozen=True)
 class Access:
-    """A broker, and a client's user, password and certificates."""
+    """A broker, and a client's user, password and certificates; and what is to be said about who else can have the password."""
 
     host: str
     port: int
@@ -24,6 +27,7 @@ class Access:
     ca: Optional[str]
     cert: Optional[str]
     key: Optional[str]
+    warnings: tuple[str, ...] = ()
 
     @property
     def place(self) -> str:
@@ -44,12 +48,35 @@ def access_of(asked: dict[str, Any], mark: str) -> Access:
     if secret and given["user"] is None:
         raise NoAccess(f"{mark}password-file wants {mark}user")
     try:
-        password = pathlib.Path(secret).read_text().split("\n")[0] if secret else None
+        password, warnings = read_password(secret) if secret else (None, ())
         for file in (given["ca"], given["cert"], given["key"]):
             open(file or os.devnull, "rb").close()
     except (OSError, ValueError) as why:
         raise NoAccess(f"a file cannot be read: {why}") from None
-    return Access(host=host, port=port or (TLS_PORT if is_tls else PORT), password=password, is_tls=is_tls, **given)
+    if password is not None and not is_tls and not is_here(host):
+        warnings += (f"the password goes to {host} without TLS, so that who is on the way can read it: see {mark}tls and {mark}ca",)
+    return Access(host=host, port=port or (TLS_PORT if is_tls else PORT), password=password, is_tls=is_tls, warnings=warnings, **given)
+
+
+def read_password(file: pathlib.Path) -> tuple[str, tuple[str, ...]]:
+    """The first line of a file, and a warning if others than its owner may read it, as a whole. The group of a file of somebody else may,
+    since else this process could not."""
+    with open(file) as opened:
+        found = os.fstat(opened.fileno())
+        others = stat.S_IROTH | (stat.S_IRGRP if found.st_uid == os.geteuid() else 0)
+        is_open = stat.S_ISREG(found.st_mode) and found.st_mode & others
+        mode = f"{stat.S_IMODE(found.st_mode):04o}"
+        warning = (f"the password in {file} can be read by others than its owner (mode {mode}): chmod 600 mends that",)
+        return opened.read().split("\n")[0], warning if is_open else ()
+
+
+def is_here(host: str) -> bool:
+    """Whether what goes to a host stays on this machine, by all addresses that it has."""
+    try:
+        found = socket.getaddrinfo(host, None, type=socket.SOCK_STREAM)
+        return all(ipaddress.ip_address(str(address[0]).partition("%")[0]).is_loopback for *_, address in found)
+    except (OSError, ValueError):
+        return False
 
 
 def topic_of(cluster: str, kind: str, number: object) -> str:

@@ -50,7 +50,7 @@ class Bridge:
         self._outbox = Outbox(self._broker, settings, self._counts, self._telling, limit)
         self._inbox = Inbox(settings.number, self._outbox, self._counts, self._telling)
         self._rounds = Rounds(settings, self._counts, self._telling)
-        self._conversations, self._answers = Conversations(self._wake), Answers()
+        self._conversations, self._answers = Conversations(self._wake, settings.longest_line), Answers()
         self._listener: Optional[Listener] = None
         self._are_read: Optional[bool] = None
         self._connection = self._turn = self._accepted = 0
@@ -475,6 +475,8 @@ def main(given: Sequence[str]) -> int:
         if not is_open(descriptor):
             os.open(os.devnull, os.O_RDONLY)
     telling = Telling(settings.number, settings.is_json)
+    for text in settings.access.warnings:
+        telling.say("exposed", text)
     try:
         # before signals only stop the bridge, since this may make a build
         program = settings.program or usual_program()

@@ -21,6 +21,8 @@ class Broker(Connection):
         super().__init__(settings.access, f"fm-{settings.number}-{claim.token}", settings.ack_wait)
         self._settings, self._mailbox, self._claim = settings, mailbox, claim
         self._states: set[int] = set()
+        # the numbers of which the broker keeps claims, which was said
+        self._kept_claims: set[int] = set()
 
     def topic(self, kind: str, number: Any = "+") -> str:
         return topic_of(self._settings.cluster, kind, number)
@@ -52,6 +54,8 @@ class Broker(Connection):
             self._heard_digest(number, message)
         elif not kind.endswith("/hello"):
             self._mailbox.put(Parcel(number, message.payload, kind.endswith("/state"), bool(message.retain)))
+        elif message.retain:
+            self._heard_kept_claim(number)
         else:
             self._heard_claim(client, number, message.payload)
 
@@ -72,6 +76,13 @@ class Broker(Connection):
         if reply is not None:
             client.publish(self.topic("hello", number), reply, QOS)
         self._mailbox.nudge()
+
+    def _heard_kept_claim(self, number: int) -> None:
+        """A claim says something of now, and no bridge has the broker keep one: so one that was kept says nothing."""
+        self._mailbox.put_strange()
+        if number not in self._kept_claims:
+            self._kept_claims.add(number)
+            self._mailbox.note(f"the broker keeps a message on {self.topic('hello', number)}, which no bridge has it keep: it is not heard")
 
     # what the bridge asks for
 

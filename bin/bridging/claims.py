@@ -21,6 +21,8 @@ from typing import Optional
 MOST_CLAIM, MOST_NEWCOMERS = 1000, 64
 # the numbers of claims that a bridge made
 MOST_TURN = 1 << 63
+# no age, and no time since 1970, has so many seconds
+MOST_SECONDS = 1e11
 Rank = tuple[bool, float, str]
 
 
@@ -45,10 +47,17 @@ def said_in(text: bytes) -> Said:
         age, taken, turn = value.get("age"), value.get("taken"), int(value["turn"])
         if not 0 <= turn < MOST_TURN:
             raise ValueError("no turn")
-        return Said(str(value["token"]), bool(value["running"]), float(value["since"]), None if age is None else float(age), turn,
+        return Said(str(value["token"]), bool(value["running"]), seconds_in(value["since"]), None if age is None else seconds_in(age), turn,
                     value["new"] is True, None if taken is None else str(taken))
     except (AttributeError, TypeError, KeyError, RecursionError, OverflowError) as why:
         raise ValueError("no claim") from why
+
+
+def seconds_in(value: object) -> float:
+    """The number that a claim names, which can be compared with each other. A ValueError says that it is none."""
+    if isinstance(value, bool) or not isinstance(value, (int, float)) or not 0 <= value <= MOST_SECONDS:
+        raise ValueError("no number of seconds")
+    return float(value)
 
 
 class Claim:

@@ -17,8 +17,9 @@ MOST_CLIENTS = 64
 class Conversation:
     """Lines that come from a descriptor, and the answers to them, which go to one. A client has a socket for both."""
 
-    def __init__(self, source: int, sink: int, wake: threading.Condition, room: Room, client: Optional[socket.socket] = None) -> None:
-        self.lines, self.writer = Lines(source, wake, room), Writer(sink, wake)
+    def __init__(self, source: int, sink: int, wake: threading.Condition, room: Room, client: Optional[socket.socket] = None,
+                 longest: Optional[int] = None) -> None:
+        self.lines, self.writer = Lines(source, wake, room, longest), Writer(sink, wake)
         self._client = client
         # lines that were taken and are not answered yet
         self.unanswered = 0
@@ -54,10 +55,10 @@ class Conversation:
 
 
 class Conversations:
-    """All conversations. Clients come from a thread; all else happens in that of the bridge."""
+    """All conversations. Clients come from a thread; all else happens in that of the bridge. A line of a client has a bound of its own."""
 
-    def __init__(self, wake: threading.Condition) -> None:
-        self._wake, self._room = wake, Room()
+    def __init__(self, wake: threading.Condition, longest: int) -> None:
+        self._wake, self._room, self._longest = wake, Room(), longest
         self.operator = Conversation(0, 1, wake, Room())
         self._clients: list[Conversation] = []
 
@@ -67,7 +68,7 @@ class Conversations:
             if len(self._clients) >= MOST_CLIENTS:
                 return False
             number = client.fileno()
-            conversation = Conversation(number, number, self._wake, self._room, client)
+            conversation = Conversation(number, number, self._wake, self._room, client, self._longest)
             self._clients.append(conversation)
             conversation.lines.start()
         return True

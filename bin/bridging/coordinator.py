@@ -82,10 +82,13 @@ class Coordinator:
     def _tell(self, lines: Sequence[bytes], kinds: Sequence[Kind]) -> tuple[list[bytes], bool]:
         """The answers to lines of which only the last may be other than what is told, and whether they added something. A line
         that asks for what the bridge does itself is refused here, as one of no kind, and a check of it is answered as one of
-        a line of no kind."""
-        asked = [CHECK_OF_NO_KIND if kind is Kind.CHECK_OF_OURS else line for line, kind in zip(lines, kinds) if kind is not Kind.OURS]
-        heard = iter(self._follower.ask(asked))
+        a line of no kind, unless the follower refuses the check, since it is no JSON."""
+        asked = [line for line, kind in zip(lines, kinds) if kind is not Kind.OURS]
+        is_check = kinds[-1] is Kind.CHECK_OF_OURS
+        heard = iter(self._follower.ask([*asked, CHECK_OF_NO_KIND] if is_check else asked))
         answers = [NO_LINE if kind is Kind.OURS else next(heard) for kind in kinds]
+        if is_check and is_accepted(answers[-1]):
+            answers[-1] = next(heard)
         # questions add no entry, but it does no harm to count them
         self._entries += sum(map(is_accepted, answers))
         told = sum(kind is Kind.TELL and is_accepted(answer) for kind, answer in zip(kinds, answers))

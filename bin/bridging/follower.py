@@ -1,4 +1,5 @@
 """The process `firmament follow`: lines go in, and each is answered."""
+import collections
 import dataclasses
 import os
 import re
@@ -88,6 +89,18 @@ class Splitter:
         return end
 
 
+def buffers(lines: Sequence[bytes]) -> list[bytes]:
+    """The lines, each with its end, in few buffers. A long one is not copied."""
+    found = [bytearray()]
+    for line in lines:
+        if len(line) > PIECE:
+            found += [line, bytearray()]
+        else:
+            found[-1] += line
+        found[-1] += b"\n"
+    return [buffer for buffer in found if buffer]
+
+
 class Follower:
     """The process, with one coordinator of the number, and with a store if one is given. Its memory, histories and renewals
     are those of docs/formats.md."""
@@ -126,7 +139,7 @@ class Follower:
         """The answers to the lines, one each, in order. Writes and reads at the same time, so neither pipe can stop the
         other. If nothing can be written or read for so many seconds, or until the bridge has to end, the process is
         ended."""
-        left = memoryview(b"".join(line + b"\n" for line in lines))
+        left = collections.deque(map(memoryview, buffers(lines)))
         answers: list[bytes] = []
         patience, last = patience or self._waits.answer, time.monotonic()
         with selectors.DefaultSelector() as ready:
@@ -143,8 +156,7 @@ class Follower:
                     if key.fileobj is self._from:
                         answers += self._read()
                     elif key.fileobj is self._into:
-                        left = left[self._write(left[:PIECE]):]
-                        if not left:
+                        if not self._write_some(left):
                             ready.unregister(self._into)
                     elif not self._hear_errors():
                         ready.unregister(key.fileobj)
@@ -161,6 +173,14 @@ class Follower:
         self._run.kill()
         waited = f"for {patience:g} s" if silent >= patience else "until the bridge had to end"
         raise Silent(FOLLOWER_ENDED, f"the follower answered nothing {waited}")
+
+    def _write_some(self, left: collections.deque[memoryview]) -> bool:
+        """Writes some of what is left. Whether more is."""
+        written = self._write(left[0][:PIECE])
+        left[0] = left[0][written:]
+        if not left[0]:
+            left.popleft()
+        return bool(left)
 
     def _write(self, piece: memoryview) -> int:
         try:

@@ -3,14 +3,18 @@ import collections
 import enum
 import itertools
 import json
+import re
 import threading
 from typing import Optional
 
-from bridging.descriptors import read_piece
+from bridging.descriptors import PIECE, read_piece
 from bridging.follower import MOST_LINE
+from bridging.sketches import sketch_of
 
 # so many lines, and bytes, wait at most; then nothing more is read until some were told
 MOST_WAITING, MOST_BYTES = 4096, 2 * MOST_LINE
+# a line of a client has at most so many bytes if nothing else is said, if it hands no packet over; and whatever is said, at least so many
+USUAL_LONGEST, LEAST_LONGEST = 1 << 20, 1000
 
 
 class Kind(enum.Enum):
@@ -29,14 +33,18 @@ KINDS = {"tell": Kind.TELL, "take": Kind.TELL, "round": Kind.ROUND, "relieve": K
          **dict.fromkeys(("coordinators", "cut", "deliver", "news", "renew", "trim"), Kind.OURS)}
 # what questions have beside the number of the coordinator
 QUESTIONS = {"ask"}, {"ask", "task"}, {"ask", "of"}, {"ask", "job"}, {"ask", "machine", "incarnation"}
+# all names that decide of what kind a line is
+NAMES = frozenset({"at", "line", "mine", *KINDS, *set().union(*QUESTIONS)})
 # numbers stay texts, since those of too many digits are no `int` here and may be ignored by the follower
 DECODER = json.JSONDecoder(parse_int=str, parse_float=str)
+# a line of more bytes is not decoded: its values could take twenty times as many
+SHORT = 1 << 20
 
 
 def kind_of(line: bytes) -> Kind:
     """The kind of a line. What is strange here is refused by the follower, which takes fewer texts for JSON."""
     try:
-        return kind_of_value(DECODER.decode(line.decode()))
+        return kind_of_value(sketch_of(line, NAMES) if len(line) > SHORT else DECODER.decode(line.decode()))
     except (ValueError, RecursionError):
         return Kind.STRANGE
 
@@ -67,18 +75,26 @@ class Room:
         self.waiting = self.unfinished = 0
 
 
+# a line that hands a packet over, and how it begins
+TAKE_BEGINS = re.compile(rb'\s*\{\s*(?:"at"\s*:\s*[0-9]+\s*,\s*)?"take"\s*:\s*"')
+TAKE = re.compile(TAKE_BEGINS.pattern + rb'[0-9a-fA-F]*"\s*(?:,\s*"at"\s*:\s*[0-9]+\s*)?\}\s*')
+
+
 class Lines:
     """Lines that are read from a descriptor in a thread, and wait here. A line of too many bytes is read to its end
-    and comes as an empty one, which the follower refuses for the same cause."""
+    and comes as an empty one, which the follower refuses for the same cause. With a lesser bound than the follower's, that is the
+    bound of each line but of one that hands a packet over."""
 
     _arrivals = itertools.count(1)
 
-    def __init__(self, descriptor: int, wake: threading.Condition, room: Optional[Room] = None) -> None:
-        self._descriptor, self._wake, self._room = descriptor, wake, room or Room()
+    def __init__(self, descriptor: int, wake: threading.Condition, room: Optional[Room] = None, longest: Optional[int] = None) -> None:
+        self._descriptor, self._wake, self._room, self._longest = descriptor, wake, room or Room(), longest
         # each with when it came, among those of all conversations
         self._waiting: collections.deque[tuple[int, bytes]] = collections.deque()
         self._ended = self._is_dropped = False
         self._piece, self._is_long, self._counted = bytearray(), False, 0
+        # whether the line is bound by the lesser bound, once it has so many bytes
+        self._is_bound: Optional[bool] = None
 
     def start(self) -> None:
         threading.Thread(target=self._read_all, daemon=True).start()
@@ -136,8 +152,8 @@ class Lines:
         lines = []
         for end in ends:
             self._grow(end, 0)
-            lines.append(b"" if self._is_long else bytes(self._piece))
-            self._piece, self._is_long = bytearray(), False
+            lines.append(self._whole())
+            self._piece, self._is_long, self._is_bound = bytearray(), False, None
         if ends and self._counted:
             with self._wake:
                 self._room.unfinished -= self._counted
@@ -145,9 +161,22 @@ class Lines:
         self._grow(rest, len(rest))
         return lines
 
+    def _whole(self) -> bytes:
+        """The line, which ends. A long one is not copied."""
+        if self._is_long or (self._is_beyond(0) and not TAKE.fullmatch(self._piece)):
+            return b""
+        return self._piece if len(self._piece) > PIECE else bytes(self._piece)
+
+    def _is_beyond(self, more: int) -> bool:
+        """Whether the line has more bytes than one that hands no packet over may have, with so many more."""
+        return self._longest is not None and len(self._piece) + more > self._longest
+
     def _grow(self, piece: bytes, counted: int) -> None:
         """The line goes on with the piece, of which so many bytes stay, since the line has no end yet."""
         self._is_long = self._is_long or len(self._piece) + len(piece) > MOST_LINE
+        if self._is_bound is None and self._is_beyond(len(piece)):
+            self._is_bound = TAKE_BEGINS.match(self._piece + piece) is None
+        self._is_long = self._is_long or self._is_bound is True
         if counted and not self._is_long:
             with self._wake:
                 self._is_long = self._room.unfinished + counted > MOST_LINE

@@ -8,6 +8,8 @@ from typing import Any, NoReturn, Optional
 
 from bridging.access import Access, NoAccess, access_of, add_broker, cluster_name, whole
 from bridging.endings import WRONG_WORDS
+from bridging.follower import MOST_LINE
+from bridging.lines import LEAST_LONGEST, USUAL_LONGEST
 from bridging.stores import MOST_LABEL
 
 # a path of a socket has at most so many bytes
@@ -39,6 +41,7 @@ class Settings:
     end_wait: float
     stays: bool
     listen: Optional[str]
+    longest_line: int
     renew_after: int
     rounds: Optional[float]
     each: Optional[int]
@@ -144,6 +147,9 @@ def parser() -> argparse.ArgumentParser:
     other.add_argument("--listen", metavar="PATH",
                        help="takes clients on a Unix socket at PATH (mode 0660), each with lines and answers of its own, and goes on at "
                             "the end of standard input")
+    other.add_argument("--longest-line", type=whole(LEAST_LONGEST, MOST_LINE), metavar="BYTES",
+                       help=f"a longer line of a client is refused, unless it is a take ({USUAL_LONGEST}); a take, and a line of standard "
+                            f"input, may have {MOST_LINE}")
     other.add_argument("--json", action="store_true", dest="is_json",
                        help="says on standard error what it does as JSON, an object a line")
     other.add_argument("--trace", action="store_true", dest="is_traced",
@@ -185,5 +191,8 @@ def read_settings(given: Sequence[str]) -> Settings:
         words.error("--each and --writers are of rounds, which --rounds asks for")
     if asked["listen"] is not None and not 0 < len(os.fsencode(asked["listen"])) <= MOST_PATH:
         words.error(f"--listen wants a path of 1 to {MOST_PATH} bytes")
+    if asked["listen"] is None and asked["longest_line"] is not None:
+        words.error("--longest-line is of clients, which --listen asks for")
+    asked["longest_line"] = asked["longest_line"] or USUAL_LONGEST
     asked["stays"] = asked["stays"] or asked["listen"] is not None
     return Settings(access=access, **asked)

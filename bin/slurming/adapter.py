@@ -195,6 +195,8 @@ def main(given: Sequence[str]) -> int:
         settings = read_configuration(asked.configuration)
         if settings.access is not None:
             look_for_paho()
+            for text in settings.access.warnings:
+                events.say("exposed", text)
         adapter = Adapter(settings, asked, events)
         if asked.is_check:
             return adapter.check()
