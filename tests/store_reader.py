@@ -6,6 +6,7 @@ is what the pages say. It answers the head, the packets with their records, the 
 prints the lines that `firmament records` and then `firmament recover` should print.
 """
 import collections
+import functools
 import hashlib
 import itertools
 import pathlib
@@ -80,6 +81,8 @@ class Fields:
         return incarnation, self.all(STATE) if parts & 1 else (), self.all(REPORT) if parts & 2 else ()
 
 
+# stores of tests often have one packet many times, and one store is asked for several times
+@functools.lru_cache(16)
 def decoded(data):
     """The sender, the number and the records of a packet in either version of the format."""
     fields, version = Fields(data), data[:4]
@@ -158,6 +161,7 @@ def head_of(record):
     return (numbers, label) if fits and len(label) <= LONGEST_LABEL else None
 
 
+@functools.lru_cache(2)
 def read(data):
     """The store that the bytes of a file have. One without a head, since it is unfinished or none, has no label."""
     if not data.startswith(MAGIC):
