@@ -1,8 +1,8 @@
 #!/usr/bin/env python3
 """Tests of bin/bridge on a real broker, by name, for tests/run: its words, its lines, its parts by themselves,
 signals and TLS. Those of what it outlives are in tests/outlived.py, those of a day's use in tests/operated.py, those of
-its store and of old journals in tests/bridge_stores.py, those of what it relays in tests/relayed.py, and those of rounds
-that it runs by itself in tests/own_rounds.py.
+its store and of old journals in tests/bridge_stores.py, those of what it relays in tests/relayed.py, those of turns and of broken senders
+in tests/senders.py, and those of rounds that it runs by itself in tests/own_rounds.py.
 
     tests/bridged.py [--program FILE] [--kills N] [GROUP..]
 
@@ -32,6 +32,7 @@ import operated
 import outlived
 import own_rounds
 import relayed
+import senders
 from bridging import access, claims, follower, lines as lines_of, mailbox, packets, settings
 from brokers import QUICK, Bridge, Broker, told as tell, until
 from clustered import agree, cluster, ended, is_refused, refused, running, told_to
@@ -229,9 +230,9 @@ def parts(program):
     box = mailbox.Mailbox(threading.Condition(), 3, 10)
     for size, is_state in ((1, False), (2, False), (0, False), (11, False), (3, True), (4, True), (5, False)):
         box.put(mailbox.Parcel(5, b"x" * size, is_state, False))
-    mail = box.collect(True)
-    sizes = [len(parcel.packet) for parcel in mail.parcels]
-    yield "a full mailbox", (sizes, mail.too_large, mail.dropped[5]) == ([1, 2, 4], 1, 1) and not box.collect(True).parcels
+    mail, parcels = box.collect(), box.take(9, 9)
+    sizes = [len(parcel.packet) for parcel in parcels]
+    yield "a full mailbox", (sizes, mail.too_large, mail.dropped[5]) == ([1, 2, 4], 1, 1) and not box.has_packets()
     yield from split(b"one\n\ntwo\n" + b"x" * (follower.MOST_LINE + 1) + b"\nthree\nfour", [b"one", b"", b"two", b"", b"three", b"four"])
 
 
@@ -360,11 +361,11 @@ def skipped(_program):
     yield "a bridge without paho-mqtt", is_refused((done.returncode, done.stdout, done.stderr), 10, b"python3-paho-mqtt")
 
 
-GROUPS = {"parts": parts, "words": words, "lines": lines, "divided": divided, **outlived.GROUPS, **operated.GROUPS, **relayed.GROUPS,
+GROUPS = {"parts": parts, "words": words, "lines": lines, "divided": divided, **outlived.GROUPS, **operated.GROUPS, **relayed.GROUPS, **senders.GROUPS,
           **own_rounds.GROUPS, **bridge_stores.GROUPS, "signals": signals, "secrets": secrets, "exposed": exposed, "example": example, "skipped": skipped}
 
 # what the gate runs side by side, as groups of tests/run, since they mostly wait
-SIDES = {"brokered_lasting": (*operated.GROUPS, *relayed.GROUPS, "kills", "signals", "secrets", "exposed", "example", "skipped"),
+SIDES = {"brokered_lasting": (*operated.GROUPS, *relayed.GROUPS, *senders.GROUPS, "kills", "signals", "secrets", "exposed", "example", "skipped"),
          "brokered_rounds": (*own_rounds.GROUPS, *bridge_stores.GROUPS)}
 SIDES["brokered"] = tuple(it for it in GROUPS if not any(it in side for side in SIDES.values()))
 

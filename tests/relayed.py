@@ -222,7 +222,7 @@ def sources(_program):
                 found.hear(number, digests_of.Digest(content, 2), kind == kept_one)
             elif kind == state:
                 known.add(content)
-                found.came(number, content)
+                found.came(number, content, False)
             else:
                 found.refresh() if kind == refresh else found.missed(number)
         yield "states to fetch, %s: %s" % (name, found.numbers() - without), found.numbers() == wanted | without

@@ -3,6 +3,7 @@ import collections
 import enum
 import itertools
 import json
+import math
 import re
 import threading
 from typing import Optional
@@ -99,11 +100,15 @@ class Lines:
     def start(self) -> None:
         threading.Thread(target=self._read_all, daemon=True).start()
 
-    def take(self, most: int) -> list[bytes]:
-        """The next lines, at most so many."""
+    def take(self, most: int, most_bytes: float = math.inf) -> list[bytes]:
+        """The next lines: at most so many, and none behind that with which they have so many bytes."""
+        taken: list[bytes] = []
+        size = 0
         with self._wake:
-            taken = [self._waiting.popleft()[1] for _ in range(min(most, len(self._waiting)))]
-            self._room.waiting -= sum(map(len, taken))
+            while self._waiting and len(taken) < most and size < most_bytes:
+                taken.append(self._waiting.popleft()[1])
+                size += len(taken[-1])
+            self._room.waiting -= size
             if taken:
                 self._wake.notify_all()
         return taken
