@@ -22,6 +22,7 @@ from bridging.mailbox import MOST_BYTES as MOST_WAITING, Mailbox
 from bridging.old_journal import take_over
 from bridging.outbox import Outbox
 from bridging.packets import content_of, number_of
+from bridging.rivals import Rivals
 from bridging.rounds import NEVER, Rounds
 from bridging.settings import Settings, read_settings
 from bridging.stores import InUse, Store
@@ -50,7 +51,7 @@ class Bridge:
         self._broker = Broker(settings, self._mailbox, self._claim)
         self._outbox = Outbox(self._broker, settings, self._counts, self._telling, limit)
         self._inbox, self._pace = Inbox(settings.number, self._mailbox, self._outbox, self._counts, self._telling), Pace()
-        self._rounds = Rounds(settings, self._counts, self._telling)
+        self._rounds, self._rivals = Rounds(settings, self._counts, self._telling), Rivals(settings, self._telling)
         self._conversations, self._answers = Conversations(self._wake, settings.longest_line), Answers()
         self._listener: Optional[Listener] = None
         self._are_read: Optional[bool] = None
@@ -263,6 +264,8 @@ class Bridge:
         for unread in self._conversations.tidy():
             self._counts.cut_off += 1
             self._telling.say("cut_off", f"a client that did not read {unread} bytes of answers is cut off", bytes=unread)
+        if self._rivals.is_due():
+            self._rivals.look(self._coordinator.winners())
         self._look_at_times()
 
     def _tell(self) -> None:
@@ -278,6 +281,7 @@ class Bridge:
         before = self._begin_news()
         lines = [line for _, line in taken]
         answers, has_added = self._coordinator.tell(lines, turn=Turn())
+        self._rivals.answered(lines, answers)
         self._conversations.put_back(taken[len(answers):])
         self._count_added(has_added, before)
         told = sum(map(is_accepted, answers))
@@ -395,6 +399,7 @@ class Bridge:
                 self._pace.took(len(wanted), time.monotonic() - began)
                 if self._inbox.judged(wanted, answers):
                     self._rounds.note_change()
+                    self._rivals.note_change()
                 self._outbox.is_stale = self._outbox.is_stale or any(map(is_accepted, answers))
                 self._trace("took", packets=[(parcel.sender, number_of(parcel.packet), parcel.is_state) for parcel in wanted])
             if turn.is_over():

@@ -126,6 +126,11 @@ class Coordinator:
             raise Failure(FOLLOWER_ENDED, f"the follower does not say how many deltas it has: {answer.decode().strip()}")
         return int(words[2])
 
+    def winners(self) -> bytes:
+        """Which coordinator placed each task, and where."""
+        answer, = self._follower.ask([b'{"at":%d,"ask":"winners"}' % self.number])
+        return answer
+
     def _renew_now(self) -> None:
         answer, = self._follower.ask([b'{"renew":true}'])
         if not is_accepted(answer):
