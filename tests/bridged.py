@@ -308,19 +308,21 @@ def exposed(_program):
         for mode, host, more, wanted in (
                 (0o600, "127.0.0.1", "", []), (0o400, "[::1]", "", []), (0o640, "127.0.0.1", "", [readable % 0o640]),
                 (0o604, "127.0.0.1", "", [readable % 0o604]), (0o600, "localhost", "", []), (0o600, "192.0.2.1", "", [sent]),
-                (0o600, "[2001:db8::1]", "", [sent]), (0o600, "192.0.2.1", "--tls", []), (0o644, "192.0.2.1", "", [readable % 0o644, sent])):
+                (0o600, "[2001:db8::1]", "", [sent]), (0o600, "192.0.2.1", "--tls", []),
+                (0o644, "192.0.2.1", "", [readable % 0o644, sent])):
             secret.chmod(mode)
             status, out, said = begun("--broker", host, "--user", "one", "--password-file", secret, *more.split())
             *lines, last = said.splitlines()
-            fine = (status, out) == (11, b"") and b"no program" in last and len(lines) == len(wanted) and all(map(bytes.__contains__, lines, wanted))
-            yield "%o, %s %s: %r" % (mode, host, more, said), fine
+            fine = (status, out) == (11, b"") and b"no program" in last and len(lines) == len(wanted)
+            yield "%o, %s %s: %r" % (mode, host, more, said), fine and all(map(bytes.__contains__, lines, wanted))
         yield "without a password nothing is said", is_refused(begun("--broker", "192.0.2.1"), 11, b"no program")
     read, write = os.pipe()
     os.write(write, b"open sesame\n")
     os.close(write)
     yield "a pipe is nobody else's", access.read_password(pathlib.Path(f"/dev/fd/{read}")) == ("open sesame", ())
     os.close(read)
-    for addresses, fine in ((["127.0.0.1", "::1"], True), (["127.0.1.1"], True), (["192.0.2.1"], False), (["::1", "192.0.2.1"], False), ([], False)):
+    for addresses, fine in ((["127.0.0.1", "::1"], True), (["127.0.1.1"], True), (["192.0.2.1"], False), (["::1", "192.0.2.1"], False),
+                            ([], False)):
         yield "a host of the addresses %s" % addresses, is_here_by(addresses) == fine
 
 
@@ -361,11 +363,14 @@ def skipped(_program):
     yield "a bridge without paho-mqtt", is_refused((done.returncode, done.stdout, done.stderr), 10, b"python3-paho-mqtt")
 
 
-GROUPS = {"parts": parts, "words": words, "lines": lines, "divided": divided, **outlived.GROUPS, **operated.GROUPS, **relayed.GROUPS, **senders.GROUPS,
-          **own_rounds.GROUPS, **bridge_stores.GROUPS, "signals": signals, "secrets": secrets, "exposed": exposed, "example": example, "skipped": skipped}
+GROUPS = {"parts": parts, "words": words, "lines": lines, "divided": divided, **outlived.GROUPS, **operated.GROUPS, **relayed.GROUPS,
+          **senders.GROUPS, **own_rounds.GROUPS, **bridge_stores.GROUPS, "signals": signals, "secrets": secrets, "exposed": exposed,
+          "example": example, "skipped": skipped}
+
 
 # what the gate runs side by side, as groups of tests/run, since they mostly wait
-SIDES = {"brokered_lasting": (*operated.GROUPS, *relayed.GROUPS, *senders.GROUPS, "kills", "signals", "secrets", "exposed", "example", "skipped"),
+SIDES = {"brokered_lasting": (*operated.GROUPS, *relayed.GROUPS, *senders.GROUPS, "kills", "signals", "secrets", "exposed", "example",
+                              "skipped"),
          "brokered_rounds": (*own_rounds.GROUPS, *bridge_stores.GROUPS)}
 SIDES["brokered"] = tuple(it for it in GROUPS if not any(it in side for side in SIDES.values()))
 

@@ -342,15 +342,16 @@ def drawn_value(chance, depth=0):
     if depth > 4 or kind < 0.3:
         return chance.choice(("1", "-2.5e3", "true", "null", "7" * 70))
     if kind < 0.5:
-        return '"%s"' % "".join(chance.choice(("a", "{", "}", "[", "]", r"\"", r"\\", ",", ":", r"\u007b", "\u00e9")) for _ in range(chance.randrange(9)))
+        letters = "a", "{", "}", "[", "]", r"\"", r"\\", ",", ":", r"\u007b", "\u00e9"
+        return '"%s"' % "".join(chance.choices(letters, k=chance.randrange(9)))
     parts = [space() + drawn_value(chance, depth + 1) + space() for _ in range(chance.randrange(4))]
     if kind < 0.75:
         return "[%s]" % (",".join(parts) or space())
     return "{%s}" % (",".join('%s"%s"%s:%s' % (space(), chance.choice(("a", r"\"", "}")), space(), part) for part in parts) or space())
 
 
-NAMES_DRAWN = ("at", "at", "at", "tell", "take", "round", "relieve", "ask", "ask", "of", "task", "job", "machine", "incarnation", "line", "line", "news", "mine", "cut", "cut",
-               "renew", "trim", "deliver", "coordinators", "x", r"\u0061t", r"t\u0065ll", "n" * 99)
+NAMES_DRAWN = ("at", "at", "at", "tell", "take", "round", "relieve", "ask", "ask", "of", "task", "job", "machine", "incarnation", "line",
+               "line", "news", "mine", "cut", "cut", "renew", "trim", "deliver", "coordinators", "x", r"\u0061t", r"t\u0065ll", "n" * 99)
 
 
 def drawn_line(chance, depth=0):
@@ -386,6 +387,10 @@ def sketches(_program):
         for depth in 127, 128:
             line = b'{"at":1,"tell":%s1%s}' % (b'[{"a":' * (depth // 2), b"}]" * (depth // 2))
             yield "a line of %d levels" % depth, lines_of.kind_of(line) is lines_of.Kind.TELL
+        for size in 1, 100, 1000, 1 << 16:
+            sketches_of.FIRST, sketches_of.PIECE = 1, size
+            line = b'{"at":1,"tell":[%s1]}' % ((b"[" * 125 + b"]" * 125 + b",") * 600)
+            yield "a deep and long line, in pieces of %d" % size, lines_of.kind_of(line) is lines_of.Kind.TELL
         yield "one that is too deep", lines_of.kind_of(b'{"at":1,"tell":%s}' % (b"[" * 9999 + b"]" * 9999)) is lines_of.Kind.STRANGE
     finally:
         (sketches_of.FIRST, sketches_of.PIECE), lines_of.SHORT = sizes, short
@@ -611,6 +616,7 @@ def deaf_clients(_program):
             yield "and it is said: %d, %r" % (status, said[-300:]), status == 0 and b'"cut_off"' in said
 
 
-GROUPS = {"looked_at": looked_at, "heavy_lines": heavy_lines, "longest_lines": longest_lines, "sketches": sketches, "slow_readers": slow_readers, "unread_errors": unread_errors, "memory_kept": memory_kept, "hangs": hangs,
+GROUPS = {"looked_at": looked_at, "heavy_lines": heavy_lines, "longest_lines": longest_lines, "sketches": sketches,
+          "slow_readers": slow_readers, "unread_errors": unread_errors, "memory_kept": memory_kept, "hangs": hangs,
           "unknown_kinds": unknown_kinds, "clients": clients, "unfinished": unfinished,
           "deaf_clients": deaf_clients}

@@ -179,10 +179,11 @@ def asked_at_once(bridges, lines):
 def rivals(_program):
     """What is a round of all tasks that placed something, whose places hold tasks, and when that is looked at: once in a while, behind a
     change, and until it was said."""
-    lines = ((b'{"at":1,"round":true}', True), (b'{"round":{"each":2},"at":1}', True), (b'{"at":1,"round":{}}', True), (b"x", False), (b"[]", False),
-             (b'{"at":1,"round":{"writers":[1],"each":2}}', False), (b'{"at":1,"relieve":true}', False), (b"[" * 9999, False))
+    lines = ((b'{"at":1,"round":true}', True), (b'{"round":{"each":2},"at":1}', True), (b'{"at":1,"round":{}}', True),
+             (b"x", False), (b"[]", False), (b'{"at":1,"round":{"writers":[1],"each":2}}', False), (b'{"at":1,"relieve":true}', False), (b"[" * 9999, False))
     yield "rounds of all", [rivals_of.is_of_all(line) for line, _ in lines] == [fine for _, fine in lines]
-    answers = (PLACED, MIXED[0]), (NOTHING, b"refusal 16\n", b"place t m 1 no-slot\nok\n", b"preempt x 0 accepted\nok\n", b"place t m 1 accepted\nrefusal 9\n")
+    answers = (PLACED, MIXED[0]), (NOTHING, b"refusal 16\n", b"place t m 1 no-slot\nok\n", b"preempt x 0 accepted\nok\n",
+                                   b"place t m 1 accepted\nrefusal 9\n")
     yield "rounds that placed", [[rivals_of.has_placed(answer) for answer in some] for some in answers] == [[True] * 2, [False] * 5]
     winners = b"t 0 3 m 1 held\nu 0 1 m 1 held\nv 0 2 m 1 gone\nw 2 12 n 1 held\nok\n"
     yield "whose places hold tasks", [rivals_of.others_in(winners, number) for number in (1, 12)] == [[3, 12], [1, 3]]
@@ -459,4 +460,5 @@ def killed(program):
                 yield "%d places were heard, and %d of them are lost" % (heard.count(b" held\n"), len(lost)), not lost
 
 
-GROUPS = {"own_rounds": own_rounds, "stand_ins": stand_ins, "two_places": two_places, "rivals": rivals, "series": series, "between_lines": between_lines, "rounds_kept": rounds_kept}
+GROUPS = {"own_rounds": own_rounds, "stand_ins": stand_ins, "two_places": two_places, "rivals": rivals,
+          "series": series, "between_lines": between_lines, "rounds_kept": rounds_kept}

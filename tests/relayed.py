@@ -336,5 +336,6 @@ def largest_message(limits):
             yield "a message of %d bytes, of which %d are kept" % (size, len(found)), (len(found) == size) == is_kept
 
 
-GROUPS = {"ages": ages, "strange_ages": strange_ages, "kept_claims": kept_claims, "retained": retained, "digests": digests, "sources": sources, "old_bridges": old_bridges,
+GROUPS = {"ages": ages, "strange_ages": strange_ages, "kept_claims": kept_claims, "retained": retained, "digests": digests,
+          "sources": sources, "old_bridges": old_bridges,
           "configured": configured}

@@ -107,8 +107,8 @@ def paces(_program):
 # senders whose packets are broken
 
 def patience(_program):
-    """Each broken packet doubles the time for which its sender is not heard, to a bound, and each whole one halves it. What is longer than before
-    is said, and the end."""
+    """Each broken packet doubles the time for which its sender is not heard, to a bound, and each whole one halves it. What is longer than
+    before is said, and the end."""
     waits, source = turns_of.Patience(), (9, False)
     found = [waits.broken(source) for _ in range(9)]
     wanted = [(float(seconds), True) for seconds in (1, 2, 4, 8, 16, 32, 64)] + [(64.0, False)] * 2
@@ -193,8 +193,8 @@ SIZE = 200_000
 
 
 def kept_rubbish(program):
-    """What the broker keeps and what is no packet, digest or claim is fetched once on a connection, and not again at each refresh. What comes
-    in its place is heard."""
+    """What the broker keeps and what is no packet, digest or claim is fetched once on a connection, and not again at each refresh. What
+    comes in its place is heard."""
     told, more, most = (list(cluster(count)) for count in (9, 15, 20))
     with contextlib.ExitStack() as stack:
         broker = stack.enter_context(Broker(stack.enter_context(tempfile.TemporaryDirectory())))

@@ -94,8 +94,8 @@ class Broker(Connection):
 
     def ask_again(self, is_new: bool, settled: Collection[int] = ()) -> None:
         """Has the broker send the digests that it keeps once more, and its own state, and behind them the claim. On a new connection it
-        sends all else too that it keeps on topics which are listened to; later neither that, nor what was no digest, nor the states of those
-        that are settled."""
+        sends all else too that it keeps on topics which are listened to. Later it sends neither that, nor what was no digest, nor the
+        states of those that are settled."""
         own = self._settings.number
         numbers = NUMBERS if is_new else [number for number in NUMBERS if number not in self._no_digests]
         topics = [(self.topic("digest", number), self.subscription()) for number in numbers]

@@ -19,7 +19,7 @@ class Inbox:
     def __init__(self, number: int, mailbox: Mailbox, outbox: Outbox, counts: Counts, telling: Telling) -> None:
         self._number, self._mailbox, self._outbox, self._counts, self._telling = number, mailbox, outbox, counts, telling
         self._patience = Patience()
-        # what the bridge sends comes back as states of its own number, which are looked at whoever else sends such; until when none of others is
+        # states of its own number are always looked at, since what it sent comes back so; until when those that others sent are not heard
         self._own_states, self._own_shut_until = (number, True), 0.0
         self._digests, self._seen, self._coverage = Seen(), Seen(), Coverage()
         self.sources = Sources(self._coverage, self._is_known)

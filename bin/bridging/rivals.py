@@ -1,8 +1,8 @@
 """Whether tasks are placed by rounds of another coordinator too, beside those of all tasks that operators ask for here. Then both may start
 the same task, until each has the other's packets.
 
-Rounds of both are seen in the winners: they name the coordinator that placed each task. All winners are as much text as a state, so they are
-looked at once in a while, and only behind a round that placed something and packets of others that said something."""
+Rounds of both are seen in the winners: they name the coordinator that placed each task. All winners are as much text as a state, so
+they are looked at once in a while, and only behind a round that placed something and packets of others that said something."""
 import json
 import re
 import time
@@ -64,5 +64,5 @@ class Rivals:
         if others:
             self._is_told = True
             named = f"coordinator{'s' if others[1:] else ''} {', '.join(map(str, others))}"
-            self._telling.say("rivals", f"rounds of all tasks were asked for here, and tasks run that {named} placed: both may start the same task, "
-                                        "so ask for rounds at one bridge, or give each bridge --rounds", coordinators=others)
+            said = f"rounds of all tasks were asked for here, and tasks run that {named} placed: both may start the same task"
+            self._telling.say("rivals", f"{said}. Ask for rounds at one bridge, or give each bridge --rounds", coordinators=others)
