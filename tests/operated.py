@@ -563,20 +563,26 @@ def sockets(broker, program, path):
     yield "the file is still there", path.read_text() == "a file"
 
 
+@contextlib.contextmanager
+def two_pipes(longest=None):
+    """Two pipes whose lines share a room, each with what reads its lines and what writes them, and the room."""
+    with contextlib.ExitStack() as stack:
+        wake, room, clients = threading.Condition(), lines_of.Room(), []
+        for _ in range(2):
+            reader, writer = os.pipe()
+            stack.callback(os.close, reader)
+            source = lines_of.Lines(reader, wake, room, longest)
+            source.start()
+            clients.append((source, stack.enter_context(os.fdopen(writer, "wb", 0))))
+        yield (*clients, room)
+
+
 def unfinished(_program):
     """Lines of clients that have no end yet share a bound: one that goes beyond it is read to its end and refused, and the others are
-    whole."""
+    whole. What a client may always have does not count."""
     most, lines_of.MOST_LINE = lines_of.MOST_LINE, 100
     try:
-        with contextlib.ExitStack() as stack:
-            wake, room, clients = threading.Condition(), lines_of.Room(), []
-            for _ in range(2):
-                reader, writer = os.pipe()
-                stack.callback(os.close, reader)
-                source = lines_of.Lines(reader, wake, room)
-                source.start()
-                clients.append((source, stack.enter_context(os.fdopen(writer, "wb", 0))))
-            (one, into_one), (two, into_two) = clients
+        with two_pipes() as ((one, into_one), (two, into_two), room):
             into_one.write(b"1" * 60)
             yield "the first part of a line is counted", bool(until(lambda: room.unfinished == 60))
             into_two.write(b"2" * 60)
@@ -588,9 +594,23 @@ def unfinished(_program):
             into_one.write(b"1\n")
             yield "the other is whole", bool(until(lambda: one.is_waiting())) and one.take(9) == [b"1" * 61]
             yield "and nothing is left", (room.unfinished, room.waiting) == (0, 0)
-            for _, into in clients:
+            for into in into_one, into_two:
                 into.close()
             yield "both end", bool(until(lambda: one.is_ended() and two.is_ended()))
+        with two_pipes(30) as ((one, into_one), (two, into_two), room):
+            into_one.write(b'{"take":"' + b"4" * 81)
+            yield "what is beyond the lesser bound is counted", bool(until(lambda: room.unfinished == 60))
+            into_two.write(b"2" * 20)
+            time.sleep(0.1)
+            into_two.write(b"2" * 10 + b"\n")
+            yield "beside a long line a usual one is whole", bool(until(lambda: two.is_waiting())) and two.take(9) == [b"2" * 30]
+            into_two.write(b'{"take":"' + b"2" * 70)
+            time.sleep(0.1)
+            into_two.write(b'"}\n')
+            yield "and a long one too many is empty", bool(until(lambda: two.is_waiting())) and two.take(9) == [b""]
+            into_one.write(b'"}\n')
+            yield "the first is whole", bool(until(lambda: one.is_waiting())) and one.take(9) == [b'{"take":"' + b"4" * 81 + b'"}']
+            yield "and nothing is left of it", (room.unfinished, room.waiting) == (0, 0)
     finally:
         lines_of.MOST_LINE = most
 

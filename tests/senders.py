@@ -10,7 +10,7 @@ import types
 import hostile
 import mqtt
 import outlived
-from bridging import digests as digests_of, mailbox as mailbox_of, packets, turns as turns_of
+from bridging import digests as digests_of, follower, inbox as inbox_of, mailbox as mailbox_of, packets, telling, turns as turns_of
 from brokers import QUICK, Bridge, Broker, told as tell, until
 from clustered import agree, cluster, ended, running
 from operated import made
@@ -141,6 +141,38 @@ def shut_out(clock):
     yield "what is not", box.collect().unheard == {(9, False): 3} and not box.has_packets()
 
 
+class Said:
+    """Keeps what is said, by events."""
+
+    def __init__(self):
+        self.events = []
+
+    def say(self, event, _text, **more):
+        self.events.append((event, more))
+
+
+def judging(_program):
+    """A packet that is broken has its sender heard less often, and its kept state not fetched again. One that is refused for lack of memory
+    has neither, and is said each time."""
+    said, counts = Said(), telling.Counts()
+    box = mailbox_of.Mailbox(threading.Condition(), 100, 100)
+    outbox = types.SimpleNamespace(is_own=lambda _: False, says=lambda _: False, came_back=lambda *_: None)
+    inbox = inbox_of.Inbox(1, box, outbox, counts, said)
+    parcels = [mailbox_of.Parcel(sender, b"x" * sender, sender < 6, True) for sender in (4, 5, 6, 7, 8)]
+    answers = [follower.NO_MEMORY, b"refusal 6\n", follower.NO_MEMORY, b"refusal 6\n", follower.OK]
+    yield "all are wanted", inbox.wanted(parcels) == parcels
+    inbox.judged(parcels, answers)
+    yield "what is counted", (counts.refused, counts.taken) == (4, 1)
+    yield "which states are not fetched again", inbox.sources.settled() == {5}
+    wanted = [("refused", {"sender": 4, "bytes": 4}), ("refused", {"sender": 6, "bytes": 6}), ("refused", {"sender": 5, "bytes": 5, "seconds": 1.0}),
+              ("refused", {"sender": 7, "bytes": 7, "seconds": 1.0})]
+    yield "what is said: %s" % said.events, said.events == wanted
+    for parcel in parcels:
+        box.put(parcel)
+    sources = [parcel.sender for parcel in box.take(9, 99)]
+    yield "who is heard: %s" % sources, sources == [4, 6, 8]
+
+
 def flood(program):
     """A sender of broken packets is handed over a few times, and said a few times, while others are heard and lines are answered. Once its
     packets are whole it is heard again."""
@@ -233,4 +265,4 @@ def spoiled_again(bridge, client):
     yield "ended", ended([bridge])
 
 
-GROUPS = {"turns": turns, "paces": paces, "patience": patience, "flood": flood, "own_topic": own_topic, "kept_rubbish": kept_rubbish}
+GROUPS = {"turns": turns, "paces": paces, "patience": patience, "judging": judging, "flood": flood, "own_topic": own_topic, "kept_rubbish": kept_rubbish}

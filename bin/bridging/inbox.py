@@ -94,17 +94,22 @@ class Inbox:
 
     def judged(self, parcels: Sequence[Parcel], answers: Sequence[bytes]) -> bool:
         """The follower took in some of the packets, and refused the others. Whether one that it took in says something."""
-        judged = list(zip(parcels, answers))
-        for parcel, answer in judged:
+        taken = [parcel for parcel, answer in zip(parcels, answers) if is_accepted(answer)]
+        broken = [parcel for parcel, answer in zip(parcels, answers) if not is_accepted(answer) and answer != NO_MEMORY]
+        for parcel, answer in zip(parcels, answers):
             if not is_accepted(answer):
                 self._refuse(parcel)
-        broken = {parcel.source: parcel for parcel, answer in judged if not is_accepted(answer) and answer != NO_MEMORY}
-        for parcel in broken.values():
+            if answer == NO_MEMORY:
+                self._telling.say("refused", f"{self._described(parcel)} is refused, since memory ran out", sender=parcel.sender,
+                                  bytes=len(parcel.packet))
+        for parcel in {parcel.source: parcel for parcel in broken}.values():
             self._hear_less(parcel)
-        for source in {parcel.source for parcel in parcels} - broken.keys():
+        for source in {parcel.source for parcel in taken} - {parcel.source for parcel in broken}:
             if self._patience.whole(source):
                 self._telling.say("heard", f"{self._named(source)} are heard as before", sender=source[0])
-        taken = [parcel for parcel, answer in judged if is_accepted(answer)]
+        for parcel in broken:
+            if parcel.is_state and parcel.was_kept:
+                self.sources.spoiled(parcel.sender)
         self._counts.taken += len(taken)
         return any(not is_empty(parcel.packet) for parcel in taken)
 
@@ -112,8 +117,6 @@ class Inbox:
         """A packet was refused, and is none of those that were taken in."""
         self._counts.refused += 1
         self.sources.missed(parcel.sender)
-        if parcel.is_state and parcel.was_kept:
-            self.sources.spoiled(parcel.sender)
         self._seen.remove(content_of(parcel.packet))
         self._digests.remove(digest_of(parcel.packet))
 
@@ -125,10 +128,13 @@ class Inbox:
         else:
             self._mailbox.shut_out(parcel.source, seconds)
         if is_longer:
-            kind = "state" if parcel.is_state else "packet"
-            said = f"a {kind} of {len(parcel.packet)} bytes on the topic of coordinator {parcel.sender} is refused"
-            self._telling.say("refused", f"{said}: {self._named(parcel.source)} are not heard for {seconds:g} s", sender=parcel.sender,
-                              bytes=len(parcel.packet), seconds=seconds)
+            said = f"{self._described(parcel)} is refused: {self._named(parcel.source)} are not heard for {seconds:g} s"
+            self._telling.say("refused", said, sender=parcel.sender, bytes=len(parcel.packet), seconds=seconds)
+
+    @staticmethod
+    def _described(parcel: Parcel) -> str:
+        kind = "state" if parcel.is_state else "packet"
+        return f"a {kind} of {len(parcel.packet)} bytes on the topic of coordinator {parcel.sender}"
 
     @staticmethod
     def _named(source: Source) -> str:
