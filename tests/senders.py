@@ -158,18 +158,18 @@ def judging(_program):
     box = mailbox_of.Mailbox(threading.Condition(), 100, 100)
     outbox = types.SimpleNamespace(is_own=lambda _: False, says=lambda _: False, came_back=lambda *_: None)
     inbox = inbox_of.Inbox(1, box, outbox, counts, said)
-    parcels = [mailbox_of.Parcel(sender, b"x" * sender, sender < 6, True) for sender in (4, 5, 6, 7, 8)]
+    parcels = [mailbox_of.Parcel(sender, bytes([sender]) * (20 + sender), sender < 6, True) for sender in (4, 5, 6, 7, 8)]
     answers = [follower.NO_MEMORY, b"refusal 6\n", follower.NO_MEMORY, b"refusal 6\n", follower.OK]
     yield "all are wanted", inbox.wanted(parcels) == parcels
     inbox.judged(parcels, answers)
     yield "what is counted", (counts.refused, counts.taken) == (4, 1)
     yield "which states are not fetched again", inbox.sources.settled() == {5}
-    wanted = [("refused", {"sender": 4, "bytes": 4}), ("refused", {"sender": 6, "bytes": 6}), ("refused", {"sender": 5, "bytes": 5, "seconds": 1.0}),
-              ("refused", {"sender": 7, "bytes": 7, "seconds": 1.0})]
-    yield "what is said: %s" % said.events, said.events == wanted
+    wanted = [{"sender": 4, "bytes": 24}, {"sender": 6, "bytes": 26}, {"sender": 5, "bytes": 25, "seconds": 1.0},
+              {"sender": 7, "bytes": 27, "seconds": 1.0}]
+    yield "what is said: %s" % said.events, said.events == [("refused", more) for more in wanted]
     for parcel in parcels:
         box.put(parcel)
-    sources = [parcel.sender for parcel in box.take(9, 99)]
+    sources = [parcel.sender for parcel in box.take(9, 999)]
     yield "who is heard: %s" % sources, sources == [4, 6, 8]
 
 
