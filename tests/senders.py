@@ -265,4 +265,5 @@ def spoiled_again(bridge, client):
     yield "ended", ended([bridge])
 
 
-GROUPS = {"turns": turns, "paces": paces, "patience": patience, "judging": judging, "flood": flood, "own_topic": own_topic, "kept_rubbish": kept_rubbish}
+GROUPS = {"turns": turns, "paces": paces, "patience": patience, "judging": judging, "flood": flood, "own_topic": own_topic,
+          "kept_rubbish": kept_rubbish}

@@ -1,22 +1,25 @@
 """What comes in: which of the packets that came are to be taken in, and what became of those that were."""
 import time
 from collections.abc import Sequence
-from typing import Optional
+from typing import TYPE_CHECKING, Optional
 
 from bridging.digests import Digest, Sources
 from bridging.follower import NO_MEMORY, is_accepted
 from bridging.mailbox import Mail, Mailbox, Parcel
-from bridging.outbox import Outbox
 from bridging.packets import Coverage, Seen, content_of, digest_of, is_empty, number_of
 from bridging.telling import Counts, Telling
 from bridging.turns import Patience, Source
+
+if TYPE_CHECKING:
+    # it needs paho-mqtt, and this module does not
+    from bridging.outbox import Outbox
 
 
 class Inbox:
     """Packets that were sent from here come back too, and so do packets that came before: neither is taken in. What
     a packet says is judged by the follower alone, which refuses bytes that are none. Who sends such is heard less often."""
 
-    def __init__(self, number: int, mailbox: Mailbox, outbox: Outbox, counts: Counts, telling: Telling) -> None:
+    def __init__(self, number: int, mailbox: Mailbox, outbox: "Outbox", counts: Counts, telling: Telling) -> None:
         self._number, self._mailbox, self._outbox, self._counts, self._telling = number, mailbox, outbox, counts, telling
         self._patience = Patience()
         # states of its own number are always looked at, since what it sent comes back so; until when those that others sent are not heard
