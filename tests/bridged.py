@@ -1,8 +1,8 @@
 #!/usr/bin/env python3
 """Tests of bin/bridge on a real broker, by name, for tests/run: its words, its lines, its parts by themselves,
 signals and TLS. Those of what it outlives are in tests/outlived.py, those of a day's use in tests/operated.py, those of
-its store and of old journals in tests/bridge_stores.py, those of what it relays in tests/relayed.py, and those of rounds
-that it runs by itself in tests/own_rounds.py.
+its store and of old journals in tests/bridge_stores.py, those of what it relays in tests/relayed.py, those of turns and of broken senders
+in tests/senders.py, and those of rounds that it runs by itself in tests/own_rounds.py.
 
     tests/bridged.py [--program FILE] [--kills N] [GROUP..]
 
@@ -33,6 +33,7 @@ import operated
 import outlived
 import own_rounds
 import relayed
+import senders
 import stores_left
 from bridging import access, claims, follower, lines as lines_of, mailbox, packets, settings
 from brokers import QUICK, Bridge, Broker, told as tell, until
@@ -231,9 +232,9 @@ def parts(program):
     box = mailbox.Mailbox(threading.Condition(), 3, 10)
     for size, is_state in ((1, False), (2, False), (0, False), (11, False), (3, True), (4, True), (5, False)):
         box.put(mailbox.Parcel(5, b"x" * size, is_state, False))
-    mail = box.collect(True)
-    sizes = [len(parcel.packet) for parcel in mail.parcels]
-    yield "a full mailbox", (sizes, mail.too_large, mail.dropped[5]) == ([1, 2, 4], 1, 1) and not box.collect(True).parcels
+    mail, parcels = box.collect(), box.take(9, 9)
+    sizes = [len(parcel.packet) for parcel in parcels]
+    yield "a full mailbox", (sizes, mail.too_large, mail.dropped[5]) == ([1, 2, 4], 1, 1) and not box.has_packets()
     yield from split(b"one\n\ntwo\n" + b"x" * (follower.MOST_LINE + 1) + b"\nthree\nfour", [b"one", b"", b"two", b"", b"three", b"four"])
 
 
@@ -309,19 +310,21 @@ def exposed(_program):
         for mode, host, more, wanted in (
                 (0o600, "127.0.0.1", "", []), (0o400, "[::1]", "", []), (0o640, "127.0.0.1", "", [readable % 0o640]),
                 (0o604, "127.0.0.1", "", [readable % 0o604]), (0o600, "localhost", "", []), (0o600, "192.0.2.1", "", [sent]),
-                (0o600, "[2001:db8::1]", "", [sent]), (0o600, "192.0.2.1", "--tls", []), (0o644, "192.0.2.1", "", [readable % 0o644, sent])):
+                (0o600, "[2001:db8::1]", "", [sent]), (0o600, "192.0.2.1", "--tls", []),
+                (0o644, "192.0.2.1", "", [readable % 0o644, sent])):
             secret.chmod(mode)
             status, out, said = begun("--broker", host, "--user", "one", "--password-file", secret, *more.split())
             *lines, last = said.splitlines()
-            fine = (status, out) == (11, b"") and b"no program" in last and len(lines) == len(wanted) and all(map(bytes.__contains__, lines, wanted))
-            yield "%o, %s %s: %r" % (mode, host, more, said), fine
+            fine = (status, out) == (11, b"") and b"no program" in last and len(lines) == len(wanted)
+            yield "%o, %s %s: %r" % (mode, host, more, said), fine and all(map(bytes.__contains__, lines, wanted))
         yield "without a password nothing is said", is_refused(begun("--broker", "192.0.2.1"), 11, b"no program")
     read, write = os.pipe()
     os.write(write, b"open sesame\n")
     os.close(write)
     yield "a pipe is nobody else's", access.read_password(pathlib.Path(f"/dev/fd/{read}")) == ("open sesame", ())
     os.close(read)
-    for addresses, fine in ((["127.0.0.1", "::1"], True), (["127.0.1.1"], True), (["192.0.2.1"], False), (["::1", "192.0.2.1"], False), ([], False)):
+    for addresses, fine in ((["127.0.0.1", "::1"], True), (["127.0.1.1"], True), (["192.0.2.1"], False), (["::1", "192.0.2.1"], False),
+                            ([], False)):
         yield "a host of the addresses %s" % addresses, is_here_by(addresses) == fine
 
 
@@ -363,10 +366,13 @@ def skipped(_program):
 
 
 GROUPS = {"parts": parts, "words": words, "lines": lines, "divided": divided, **outlived.GROUPS, **operated.GROUPS, **relayed.GROUPS,
-          **own_rounds.GROUPS, **bridge_stores.GROUPS, "signals": signals, "secrets": secrets, "exposed": exposed, "example": example, "skipped": skipped}
+          **senders.GROUPS, **own_rounds.GROUPS, **bridge_stores.GROUPS, "signals": signals, "secrets": secrets, "exposed": exposed,
+          "example": example, "skipped": skipped}
+
 
 # what the gate runs side by side, as groups of tests/run, since they mostly wait
-SIDES = {"brokered_lasting": (*operated.GROUPS, *relayed.GROUPS, "kills", "signals", "secrets", "exposed", "example", "skipped"),
+SIDES = {"brokered_lasting": (*operated.GROUPS, *relayed.GROUPS, *senders.GROUPS, "kills", "signals", "secrets", "exposed", "example",
+                              "skipped"),
          "brokered_rounds": (*own_rounds.GROUPS, *bridge_stores.GROUPS)}
 SIDES["brokered"] = tuple(it for it in GROUPS if not any(it in side for side in SIDES.values()))
 

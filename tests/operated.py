@@ -343,15 +343,16 @@ def drawn_value(chance, depth=0):
     if depth > 4 or kind < 0.3:
         return chance.choice(("1", "-2.5e3", "true", "null", "7" * 70))
     if kind < 0.5:
-        return '"%s"' % "".join(chance.choice(("a", "{", "}", "[", "]", r"\"", r"\\", ",", ":", r"\u007b", "\u00e9")) for _ in range(chance.randrange(9)))
+        letters = "a", "{", "}", "[", "]", r"\"", r"\\", ",", ":", r"\u007b", "\u00e9"
+        return '"%s"' % "".join(chance.choices(letters, k=chance.randrange(9)))
     parts = [space() + drawn_value(chance, depth + 1) + space() for _ in range(chance.randrange(4))]
     if kind < 0.75:
         return "[%s]" % (",".join(parts) or space())
     return "{%s}" % (",".join('%s"%s"%s:%s' % (space(), chance.choice(("a", r"\"", "}")), space(), part) for part in parts) or space())
 
 
-NAMES_DRAWN = ("at", "at", "at", "tell", "take", "round", "relieve", "ask", "ask", "of", "task", "job", "machine", "incarnation", "line", "line", "news", "mine", "cut", "cut",
-               "renew", "trim", "deliver", "coordinators", "x", r"\u0061t", r"t\u0065ll", "n" * 99)
+NAMES_DRAWN = ("at", "at", "at", "tell", "take", "round", "relieve", "ask", "ask", "of", "task", "job", "machine", "incarnation", "line",
+               "line", "news", "mine", "cut", "cut", "renew", "trim", "deliver", "coordinators", "x", r"\u0061t", r"t\u0065ll", "n" * 99)
 
 
 def drawn_line(chance, depth=0):
@@ -387,6 +388,10 @@ def sketches(_program):
         for depth in 127, 128:
             line = b'{"at":1,"tell":%s1%s}' % (b'[{"a":' * (depth // 2), b"}]" * (depth // 2))
             yield "a line of %d levels" % depth, lines_of.kind_of(line) is lines_of.Kind.TELL
+        for size in 1, 100, 1000, 1 << 16:
+            sketches_of.FIRST, sketches_of.PIECE = 1, size
+            line = b'{"at":1,"tell":[%s1]}' % ((b"[" * 125 + b"]" * 125 + b",") * 600)
+            yield "a deep and long line, in pieces of %d" % size, lines_of.kind_of(line) is lines_of.Kind.TELL
         yield "one that is too deep", lines_of.kind_of(b'{"at":1,"tell":%s}' % (b"[" * 9999 + b"]" * 9999)) is lines_of.Kind.STRANGE
     finally:
         (sketches_of.FIRST, sketches_of.PIECE), lines_of.SHORT = sizes, short
@@ -559,20 +564,26 @@ def sockets(broker, program, path):
     yield "the file is still there", path.read_text() == "a file"
 
 
+@contextlib.contextmanager
+def two_pipes(longest=None):
+    """Two pipes whose lines share a room, each with what reads its lines and what writes them, and the room."""
+    with contextlib.ExitStack() as stack:
+        wake, room, clients = threading.Condition(), lines_of.Room(), []
+        for _ in range(2):
+            reader, writer = os.pipe()
+            stack.callback(os.close, reader)
+            source = lines_of.Lines(reader, wake, room, longest)
+            source.start()
+            clients.append((source, stack.enter_context(os.fdopen(writer, "wb", 0))))
+        yield (*clients, room)
+
+
 def unfinished(_program):
     """Lines of clients that have no end yet share a bound: one that goes beyond it is read to its end and refused, and the others are
-    whole."""
+    whole. What a client may always have does not count."""
     most, lines_of.MOST_LINE = lines_of.MOST_LINE, 100
     try:
-        with contextlib.ExitStack() as stack:
-            wake, room, clients = threading.Condition(), lines_of.Room(), []
-            for _ in range(2):
-                reader, writer = os.pipe()
-                stack.callback(os.close, reader)
-                source = lines_of.Lines(reader, wake, room)
-                source.start()
-                clients.append((source, stack.enter_context(os.fdopen(writer, "wb", 0))))
-            (one, into_one), (two, into_two) = clients
+        with two_pipes() as ((one, into_one), (two, into_two), room):
             into_one.write(b"1" * 60)
             yield "the first part of a line is counted", bool(until(lambda: room.unfinished == 60))
             into_two.write(b"2" * 60)
@@ -584,9 +595,23 @@ def unfinished(_program):
             into_one.write(b"1\n")
             yield "the other is whole", bool(until(lambda: one.is_waiting())) and one.take(9) == [b"1" * 61]
             yield "and nothing is left", (room.unfinished, room.waiting) == (0, 0)
-            for _, into in clients:
+            for into in into_one, into_two:
                 into.close()
             yield "both end", bool(until(lambda: one.is_ended() and two.is_ended()))
+        with two_pipes(30) as ((one, into_one), (two, into_two), room):
+            into_one.write(b'{"take":"' + b"4" * 81)
+            yield "what is beyond the lesser bound is counted", bool(until(lambda: room.unfinished == 60))
+            into_two.write(b"2" * 20)
+            time.sleep(0.1)
+            into_two.write(b"2" * 10 + b"\n")
+            yield "beside a long line a usual one is whole", bool(until(lambda: two.is_waiting())) and two.take(9) == [b"2" * 30]
+            into_two.write(b'{"take":"' + b"2" * 70)
+            time.sleep(0.1)
+            into_two.write(b'"}\n')
+            yield "and a long one too many is empty", bool(until(lambda: two.is_waiting())) and two.take(9) == [b""]
+            into_one.write(b'"}\n')
+            yield "the first is whole", bool(until(lambda: one.is_waiting())) and one.take(9) == [b'{"take":"' + b"4" * 81 + b'"}']
+            yield "and nothing is left of it", (room.unfinished, room.waiting) == (0, 0)
     finally:
         lines_of.MOST_LINE = most
 
@@ -612,6 +637,7 @@ def deaf_clients(_program):
             yield "and it is said: %d, %r" % (status, said[-300:]), status == 0 and b'"cut_off"' in said
 
 
-GROUPS = {"looked_at": looked_at, "heavy_lines": heavy_lines, "longest_lines": longest_lines, "sketches": sketches, "slow_readers": slow_readers, "unread_errors": unread_errors, "memory_kept": memory_kept, "hangs": hangs,
+GROUPS = {"looked_at": looked_at, "heavy_lines": heavy_lines, "longest_lines": longest_lines, "sketches": sketches,
+          "slow_readers": slow_readers, "unread_errors": unread_errors, "memory_kept": memory_kept, "hangs": hangs,
           "unknown_kinds": unknown_kinds, "clients": clients, "unfinished": unfinished,
           "deaf_clients": deaf_clients}

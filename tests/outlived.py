@@ -363,7 +363,7 @@ def packet_of(told, version=b"FDG2", sender=9, number=7):
 
 def strangers(program):
     """A foreign client publishes garbage, packets that are cut off, of other versions, too large, and claims: all is
-    refused and counted, packets of the older version are taken in, and all agree."""
+    refused, or not heard after that, and counted, packets of the older version are taken in, and all agree."""
     told, older = list(cluster(40)), list(cluster(3))[:2] + [{"spec": {**hostile.OPERATIONS["spec"], "prefer": []}}]
     whole, chance = packet_of(told[:9]), random.Random("strangers")
     garbage = [b"\0", b"FDG2", b"FDG3" + whole[4:], whole[:-1], whole + b"\0", whole[:20], b"\xff" * 100, chance.randbytes(5000),
@@ -379,12 +379,13 @@ def strangers(program):
                 client.publish("fetohamu/test/" + topic, b"", retain=True)
             client.publish("fetohamu/test/deltas/9", b"FDG2" + bytes(TOO_LARGE))
             client.publish("fetohamu/test/state/9", b"FDG2" + bytes(TOO_LARGE), retain=True)
-            client.publish("fetohamu/test/deltas/9", packet_of(older, b"FDG1"))
+            # of a sender that is heard: none of its packets was broken
+            client.publish("fetohamu/test/deltas/8", packet_of(older, b"FDG1", 8))
         yield "told after that", told_to(bridges, told[20:])
         yield "one graph", agree(bridges, told + older)
-        for kind, least in (("refused", 9), ("too_large", 2), ("strange", 7)):
-            enough = lambda: all(bridge.counts().get(kind, 0) >= least for bridge in bridges)
-            yield "%s packets are counted" % kind, bool(until(enough))
+        for kinds, least in ((("refused",), 2), (("refused", "unheard"), 2 * len(garbage)), (("too_large",), 2), (("strange",), 7)):
+            enough = lambda: all(sum(bridge.counts().get(kind, 0) for kind in kinds) >= least for bridge in bridges)
+            yield "%s packets are counted" % " and ".join(kinds), bool(until(enough))
         with Bridge(broker.port, 4, *QUICK, program=program) as later:
             yield "one that comes later", agree([later], told + older)
         yield "ended", ended(bridges)

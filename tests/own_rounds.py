@@ -12,7 +12,7 @@ import types
 import brokers
 import hostile
 import stores_left
-from bridging import coordinator, follower, packets, rounds as rounds_of, settings, telling
+from bridging import coordinator, follower, packets, rivals as rivals_of, rounds as rounds_of, settings, telling
 from brokers import QUICK, Bridge, told as tell, until
 from clustered import agree, ended, running, told_to
 from operated import made
@@ -137,6 +137,84 @@ def stand_ins(program):
             yield "it places the tasks of both", placers([one, two]) == stands_for
             yield "an operator's round is answered", one.ask({"at": 1, "round": True}) == b"ok\n"
             yield "ended", ended([one, two])
+
+
+# rounds at two places
+
+def two_places(program):
+    """Operators of two bridges ask for rounds of all tasks at the same time: tasks are started twice, and both bridges say so, once. With
+    rounds of own tasks, and with rounds at one bridge, none is, and nothing is said."""
+    told = [*tasks(TASKS, NUMBERS[:2]), *machines()]
+    for name, words, share, those in (("all", (), "true", (1, 2)), ("all, a few each", (), '{"each":9}', (1, 2)), ("own", (), None, (1, 2)),
+                                      ("at one", (), "true", (2,)), ("beside --rounds", ("--rounds", "3600"), "true", (1, 2))):
+        lines = {number: b'{"at":%d,"round":%s}\n' % (number, (share or '{"writers":[%d]}' % number).encode()) for number in those}
+        with running(program, NUMBERS[:2], *words) as (_, bridges):
+            yield f"{name}: told", told_to_writers(bridges, told) and agree(bridges, told)
+            started = sum(asked_at_once([bridge for bridge in bridges if bridge.number in those], lines))
+            are_two = share is not None and len(those) == 2
+            yield f"{name}: started {started} of {TASKS}", started > TASKS if are_two else started == TASKS
+            if are_two:
+                # of two places that of the lesser number counts, so a further task shows that the other one places too
+                further = next(op for op in tasks(99, [2]) if op.get("spec", {}).get("id", "").endswith("62"))
+                bridges[1].write(tell(2, further) + lines[2])
+                heard = lambda: all(b"-0001-000000000062 " in answer for answer in asked(bridges, "winners"))
+                yield f"{name}: a further one", bool(until(heard, pause=0.1))
+            wanted = [[[2]], [[1]]] if are_two and not words else [[], []]
+            said = lambda: [[it["coordinators"] for it in said_of(bridge, "rivals")] for bridge in bridges]
+            until(lambda: said() == wanted)
+            # some two refreshes, in which it would be said again
+            time.sleep(2.5)
+            yield f"{name}: it is said {said()}", said() == wanted
+            yield f"{name}: ended", ended(bridges)
+
+
+def asked_at_once(bridges, lines):
+    """How many tasks the rounds placed that these bridges are asked for at the same time."""
+    before = [len(bridge.heard) for bridge in bridges]
+    for bridge in bridges:
+        bridge.write(lines[bridge.number])
+    until(lambda: all(bridge.heard.endswith(b"ok\n", begin) for bridge, begin in zip(bridges, before)))
+    return [len(re.findall(rb"(?m)^place .* accepted$", bridge.heard[begin:])) for bridge, begin in zip(bridges, before)]
+
+
+def rivals(_program):
+    """What is a round of all tasks that placed something, whose places hold tasks, and when that is looked at: once in a while, behind a
+    change, and until it was said."""
+    lines = ((b'{"at":1,"round":true}', True), (b'{"round":{"each":2},"at":1}', True), (b'{"at":1,"round":{}}', True),
+             (b"x", False), (b"[]", False), (b'{"at":1,"round":{"writers":[1],"each":2}}', False), (b'{"at":1,"relieve":true}', False), (b"[" * 9999, False))
+    yield "rounds of all", [rivals_of.is_of_all(line) for line, _ in lines] == [fine for _, fine in lines]
+    answers = (PLACED, MIXED[0]), (NOTHING, b"refusal 16\n", b"place t m 1 no-slot\nok\n", b"preempt x 0 accepted\nok\n",
+                                   b"place t m 1 accepted\nrefusal 9\n")
+    yield "rounds that placed", [[rivals_of.has_placed(answer) for answer in some] for some in answers] == [[True] * 2, [False] * 5]
+    winners = b"t 0 3 m 1 held\nu 0 1 m 1 held\nv 0 2 m 1 gone\nw 2 12 n 1 held\nok\n"
+    yield "whose places hold tasks", [rivals_of.others_in(winners, number) for number in (1, 12)] == [[3, 12], [1, 3]]
+    before, said = rivals_of.time, Silent()
+    clock = rivals_of.time = types.SimpleNamespace(monotonic=lambda: clock.now, now=100.0)
+    try:
+        watch, none = (rivals_of.Rivals(given(*words), said) for words in ((), ("--rounds", "5")))
+        due = [watch.is_due()]
+        for each in watch, none:
+            each.answered([lines[5][0], b"x"], [PLACED, PLACED])
+            due.append(each.is_due())
+            each.answered([b"x", lines[0][0]], [NOTHING, PLACED])
+            due.append(each.is_due())
+        yield "behind a round of all: %s" % due, due == [False, False, True, False, False]
+        watch.look(b"t 0 2 m 1 held\nok\n")
+        watch.note_change()
+        due = [watch.is_due()]
+        clock.now += 60
+        yield "once in a refresh", not due[0] and watch.is_due() and said.said == []
+        watch.look(b"ok\n")
+        clock.now += 60
+        yield "behind a change", not watch.is_due()
+        watch.note_change()
+        watch.look(winners)
+        clock.now += 600
+        watch.note_change()
+        watch.answered([lines[0][0]], [PLACED])
+        yield "and it is said once: %s" % said.said, not watch.is_due() and said.said == [("rivals", {"coordinators": [1, 3, 12]})]
+    finally:
+        rivals_of.time = before
 
 
 # when rounds run
@@ -383,4 +461,5 @@ def killed(program):
                 yield "%d places were heard, and %d of them are lost" % (heard.count(b" held\n"), len(lost)), not lost
 
 
-GROUPS = {"own_rounds": own_rounds, "stand_ins": stand_ins, "series": series, "between_lines": between_lines, "rounds_kept": rounds_kept}
+GROUPS = {"own_rounds": own_rounds, "stand_ins": stand_ins, "two_places": two_places, "rivals": rivals,
+          "series": series, "between_lines": between_lines, "rounds_kept": rounds_kept}

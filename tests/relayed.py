@@ -222,7 +222,7 @@ def sources(_program):
                 found.hear(number, digests_of.Digest(content, 2), kind == kept_one)
             elif kind == state:
                 known.add(content)
-                found.came(number, content)
+                found.came(number, content, False)
             else:
                 found.refresh() if kind == refresh else found.missed(number)
         yield "states to fetch, %s: %s" % (name, found.numbers() - without), found.numbers() == wanted | without
@@ -336,5 +336,6 @@ def largest_message(limits):
             yield "a message of %d bytes, of which %d are kept" % (size, len(found)), (len(found) == size) == is_kept
 
 
-GROUPS = {"ages": ages, "strange_ages": strange_ages, "kept_claims": kept_claims, "retained": retained, "digests": digests, "sources": sources, "old_bridges": old_bridges,
+GROUPS = {"ages": ages, "strange_ages": strange_ages, "kept_claims": kept_claims, "retained": retained, "digests": digests,
+          "sources": sources, "old_bridges": old_bridges,
           "configured": configured}

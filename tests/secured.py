@@ -318,20 +318,21 @@ def certificates(program):
         certificate(folder, "elsewhere", "subjectAltName=DNS:elsewhere.example,IP:127.0.0.2")
         certificate(folder, "over", "subjectAltName=IP:127.0.0.1", days=-1)
         certificate(folder, "one")
-        trusts = ["--ca", f"{folder}/ca.pem", "--connect-wait", "2"]
+        # also the follower has so long to begin, on a busy machine
+        trusts = ["--ca", f"{folder}/ca.pem", "--connect-wait", "20"]
         for name, told in ("elsewhere", "of another host"), ("over", "that is over"):
             with Broker(folder, ["allow_anonymous true", f"certfile {folder}/{name}.pem", f"keyfile {folder}/{name}.key"]) as broker:
-                found = refused(broker.port, "--number", "1", *trusts, program=program)
+                found = refused(broker.port, "--number", "1", *trusts, program=program, patience=120)
                 yield "a certificate %s: %r" % (told, found[2]), is_refused(found, 13, b"CERTIFICATE_VERIFY_FAILED")
         (folder / "rules").write_text("user one\ntopic read fetohamu/test/#\ntopic write fetohamu/test/+/1\n")
         (folder / "rules").chmod(0o600)
         lines = [f"certfile {folder}/here.pem", f"keyfile {folder}/here.key", f"cafile {folder}/ca.pem", "require_certificate true",
                  "use_identity_as_username true", "allow_anonymous false", f"acl_file {folder}/rules"]
         with Broker(folder, lines) as broker:
-            found = refused(broker.port, "--number", "1", *trusts, program=program)
+            found = refused(broker.port, "--number", "1", *trusts, program=program, patience=120)
             yield "no certificate of one's own: %r" % found[2], is_refused(found, 13, b"TLS")
             own = [*trusts, "--cert", f"{folder}/one.pem", "--key", f"{folder}/one.key"]
-            found = refused(broker.port, "--number", "2", *own, program=program)
+            found = refused(broker.port, "--number", "2", *own, program=program, patience=120)
             yield "a number that its user may not write: %r" % found[2], is_refused(found, 13, b"hello/2")
             with Bridge(broker.port, 1, *QUICK, *own, program=program) as bridge:
                 yield "its own number", told_to([bridge], cluster(3)) and ended([bridge])
@@ -396,8 +397,14 @@ def ended_by_signal(bridge):
     return bridge.run.wait(timeout=60) == 0
 
 
+def private(folder):
+    """Whether a store is in a folder, and all files there are their owner's alone."""
+    found = {it.name: stat.S_IMODE(it.stat().st_mode) for it in folder.iterdir()}
+    yield "modes: %s" % {name: oct(mode) for name, mode in found.items()}, "store" in found and set(found.values()) == {0o600}
+
+
 def files(program):
-    """A bridge's store and its lock are the owner's alone, whatever the umask; and who may write a store may forge what it knows."""
+    """A bridge's store and what is beside it are the owner's alone, whatever the umask; who may write a store may forge what it knows."""
     with stores_left.folder() as folder, running(program, []) as (broker, _):
         path, before = folder / "store", os.umask(0)
         try:
@@ -406,9 +413,9 @@ def files(program):
             os.umask(before)
         with bridge:
             yield "told", told_to([bridge], cluster(3))
-            found = {it.name: stat.S_IMODE(it.stat().st_mode) for it in folder.iterdir()}
-            yield "modes: %s" % {name: oct(mode) for name, mode in found.items()}, found == {"store": 0o600, "store.lock": 0o600}
+            yield from private(folder)
             yield "it ends", ended([bridge])
+        yield from private(folder)
         forged = op("job", version=7, withdrawn=True)
         with path.open("ab") as store:
             store.write(stored.frame(packet_of([forged], sender=1)))

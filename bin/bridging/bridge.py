@@ -18,14 +18,16 @@ from bridging.endings import BROKER_REFUSES, NOT_ALL_SENT, NUMBER_TAKEN, OUTPUT_
 from bridging.follower import Waits, is_accepted, usual_program
 from bridging.inbox import Inbox
 from bridging.listening import Listener
-from bridging.mailbox import Mailbox
+from bridging.mailbox import MOST_BYTES as MOST_WAITING, Mailbox
 from bridging.old_journal import take_over
 from bridging.outbox import Outbox
 from bridging.packets import content_of, number_of
+from bridging.rivals import Rivals
 from bridging.rounds import NEVER, Rounds
 from bridging.settings import Settings, read_settings
 from bridging.stores import InUse, Store
 from bridging.telling import Clocks, Counts, Telling
+from bridging.turns import PORTION, TURN_BYTES, Pace, Turn
 
 LONGEST_SLEEP = 1.0
 # a store that another process has is asked for again after so many seconds
@@ -48,8 +50,8 @@ class Bridge:
         self._claim = Claim(settings.number)
         self._broker = Broker(settings, self._mailbox, self._claim)
         self._outbox = Outbox(self._broker, settings, self._counts, self._telling, limit)
-        self._inbox = Inbox(settings.number, self._outbox, self._counts, self._telling)
-        self._rounds = Rounds(settings, self._counts, self._telling)
+        self._inbox, self._pace = Inbox(settings.number, self._mailbox, self._outbox, self._counts, self._telling), Pace()
+        self._rounds, self._rivals = Rounds(settings, self._counts, self._telling), Rivals(settings, self._telling)
         self._conversations, self._answers = Conversations(self._wake, settings.longest_line), Answers()
         self._listener: Optional[Listener] = None
         self._are_read: Optional[bool] = None
@@ -132,7 +134,7 @@ class Bridge:
         if is_known:
             # states that say the same are neither fetched nor added to the store again
             self._inbox.know(content_of(self._coordinator.cut_state()))
-        self._exchange()
+        self._exchange_all()
         self._fetch_states()
         self._inbox.is_foreign = False
         self._outbox.last_state = self._inbox.own_state
@@ -180,7 +182,11 @@ class Bridge:
             while not self._claim.is_back() and not self._claim.is_lost and not self._stopping and time.monotonic() < end:
                 with self._wake:
                     self._wake.wait(0.02)
-            self._exchange()
+            self._exchange_all()
+
+    def _exchange_all(self) -> None:
+        """Takes in what came before any line is told, for as long as a connection is waited for."""
+        self._exchange(Turn(self._settings.connect_wait, MOST_WAITING))
 
     def _taken(self) -> str:
         return f"the number {self._settings.number} of cluster {self._settings.cluster} is taken by another bridge"
@@ -241,10 +247,10 @@ class Bridge:
 
     def _step(self) -> None:
         self._look_at_connection()
-        self._hear(with_packets=False)
+        self._hear()
         self._tell()
         if self._is_exchange_due():
-            self._exchange()
+            self._exchange(Turn())
         self._run_round()
         if self._outbox.is_state_due() and self._can_send_state() and not self._coordinator.own_news():
             began = Clocks()
@@ -258,20 +264,24 @@ class Bridge:
         for unread in self._conversations.tidy():
             self._counts.cut_off += 1
             self._telling.say("cut_off", f"a client that did not read {unread} bytes of answers is cut off", bytes=unread)
+        if self._rivals.is_due():
+            self._rivals.look(self._coordinator.winners())
         self._look_at_times()
 
     def _tell(self) -> None:
-        """Tells lines that wait. What they come to is in the store, if there is one, before the follower answers."""
+        """Tells lines that wait, for a turn. What they come to is in the store, if there is one, before the follower answers."""
         if self._conversations.operator.writer.is_broken or self._claim.is_lost:
             self._stopping = True
         if self._stopping or not self._answers.has_room():
             return
         room = max(1, self._settings.cut_count - self._coordinator.own_news())
-        taken = self._conversations.take(min(AT_ONCE, room))
+        taken = self._conversations.take(min(AT_ONCE, room), TURN_BYTES)
         if not taken:
             return
         before = self._begin_news()
-        answers, has_added = self._coordinator.tell([line for _, line in taken])
+        lines = [line for _, line in taken]
+        answers, has_added = self._coordinator.tell(lines, turn=Turn())
+        self._rivals.answered(lines, answers)
         self._conversations.put_back(taken[len(answers):])
         self._count_added(has_added, before)
         told = sum(map(is_accepted, answers))
@@ -327,20 +337,21 @@ class Bridge:
         return (news >= self._settings.cut_count or time.monotonic() - self._oldest >= self._settings.cut_interval
                 or self._mailbox.load() > 0.5 or self._stopping or self._are_lines_ended() or is_back)
 
-    def _exchange(self) -> None:
-        """Cuts its own news and sends it, and then takes in what came."""
-        is_back, turn = self._claim.is_back(), self._claim.came_back
+    def _exchange(self, turn: Turn) -> None:
+        """Cuts its own news and sends it, and then takes in what came, for a turn."""
+        is_back, came_back = self._claim.is_back(), self._claim.came_back
         if self._coordinator.own_news():
             self._send_news()
-        self._hear(with_packets=True)
+        self._hear()
+        self._take_in(turn)
         if self._coordinator.is_to_renew():
             self._coordinator.renew()
             self._counts.renewals += 1
             # its packets are numbered from the beginning, so the others need a state
             self._outbox.is_stale = True
             self._outbox.want_state(self._settings.state_interval)
-        if is_back and self._turn != turn:
-            self._turn = turn
+        if is_back and self._turn != came_back and not self._mailbox.is_waiting_from(self._settings.number):
+            self._turn = came_back
             if self._inbox.own_state != self._outbox.last_state and self._coordinator.deltas:
                 self._outbox.is_gone()
             elif self._is_new_connection or self._inbox.own_digest != self._outbox.digest:
@@ -363,29 +374,36 @@ class Bridge:
         if state is not None:
             self._send_state(state, began)
 
-    def _hear(self, with_packets: bool) -> None:
-        """Looks at what came, and takes packets in."""
-        mail = self._mailbox.collect(with_packets)
+    def _hear(self) -> None:
+        """Looks at what came but for packets."""
+        mail = self._mailbox.collect()
         self._outbox.acknowledge(mail.acknowledged)
         self._counts.strange += mail.strange
         self._counts.too_large += mail.too_large
         for text in mail.notes:
             self._telling.say("broker", text)
+        self._inbox.missed(mail)
         if mail.dropped:
             dropped = sum(mail.dropped.values())
-            self._counts.dropped += dropped
             self._telling.say("full", f"{dropped} packets came while {self._settings.queue} waited, and were dropped: "
                                       "the states that the broker keeps are asked for again", dropped=dropped)
-            for sender in mail.dropped:
-                self._inbox.sources.missed(sender)
             self._refresh_at = min(self._refresh_at, time.monotonic() + 1)
-        wanted = self._inbox.wanted(mail.parcels)
-        if wanted:
-            if self._inbox.judged(wanted, self._coordinator.take([parcel.packet for parcel in wanted])):
-                self._rounds.note_change()
-            self._outbox.is_stale = True
-            took = [(parcel.sender, number_of(parcel.packet), parcel.is_state) for parcel in wanted]
-            self._trace("took", packets=took)
+
+    def _take_in(self, turn: Turn) -> None:
+        """Takes in packets that wait, until none does or the turn is over. Each call is of as many as were quick enough before."""
+        while parcels := self._mailbox.take(self._pace.count, PORTION):
+            turn.took(sum(len(parcel.packet) for parcel in parcels))
+            if wanted := self._inbox.wanted(parcels):
+                began = time.monotonic()
+                answers = self._coordinator.take([parcel.packet for parcel in wanted])
+                self._pace.took(len(wanted), time.monotonic() - began)
+                if self._inbox.judged(wanted, answers):
+                    self._rounds.note_change()
+                    self._rivals.note_change()
+                self._outbox.is_stale = self._outbox.is_stale or any(map(is_accepted, answers))
+                self._trace("took", packets=[(parcel.sender, number_of(parcel.packet), parcel.is_state) for parcel in wanted])
+            if turn.is_over():
+                break
 
     def _trace(self, event: str, **more: object) -> None:
         if self._settings.is_traced:
@@ -456,7 +474,7 @@ class Bridge:
             self._inbox.sources.refresh()
             if self._outbox.is_stale:
                 self._outbox.want_state(0)
-            self._broker.ask_again(is_new=False)
+            self._broker.ask_again(is_new=False, settled=self._inbox.sources.settled())
 
 
 def is_open(descriptor: int) -> bool:

@@ -1,4 +1,5 @@
 """What a bridge sends and asks for by way of the MQTT broker, and what it hears."""
+from collections.abc import Collection
 from typing import Any
 
 import paho.mqtt.client as paho
@@ -23,6 +24,8 @@ class Broker(Connection):
         self._states: set[int] = set()
         # the numbers of which the broker keeps claims, which was said
         self._kept_claims: set[int] = set()
+        # the numbers of which the broker keeps something else than a digest
+        self._no_digests: set[int] = set()
 
     def topic(self, kind: str, number: Any = "+") -> str:
         return topic_of(self._settings.cluster, kind, number)
@@ -66,6 +69,9 @@ class Broker(Connection):
                 self._mailbox.put_digest(number, digest_in(message.payload), bool(message.retain))
         except ValueError:
             self._mailbox.put_strange()
+            self._no_digests |= {number} if message.retain else set()
+        else:
+            self._no_digests.discard(number)
 
     def _heard_claim(self, client: paho.Client, number: int, text: bytes) -> None:
         try:
@@ -86,15 +92,22 @@ class Broker(Connection):
 
     # what the bridge asks for
 
-    def ask_again(self, is_new: bool) -> None:
-        """Has the broker send the digests that it keeps once more, and its own state, and behind them the claim."""
+    def ask_again(self, is_new: bool, settled: Collection[int] = ()) -> None:
+        """Has the broker send the digests that it keeps once more, and its own state, and behind them the claim. On a new connection it
+        sends all else too that it keeps on topics which are listened to. Later it sends neither that, nor what was no digest, nor the
+        states of those that are settled."""
         own = self._settings.number
-        topics = [(self.topic(kind), self.subscription(kind == "deltas")) for kind in ("hello", "deltas", "digest")]
+        numbers = NUMBERS if is_new else [number for number in NUMBERS if number not in self._no_digests]
+        topics = [(self.topic("digest", number), self.subscription()) for number in numbers]
+        if is_new:
+            self._no_digests.clear()
+            topics += [(self.topic(kind), self.subscription(kind == "deltas")) for kind in ("hello", "deltas")]
         self._client.subscribe([*topics, (self.topic("state", own), self.subscription())])
+        stay = self._states & set(settled) - {own} if not is_new else set()
         if not is_new:
             # what is still to come is asked for again
-            self._client.unsubscribe([self.topic("state", number) for number in NUMBERS if number != own])
-        self._states = {own}
+            self._client.unsubscribe([self.topic("state", number) for number in NUMBERS if number not in (own, *stay)])
+        self._states = {own} | stay
         self.claim(is_new)
 
     def claim(self, is_new: bool) -> None:

@@ -77,15 +77,17 @@ class Conversations:
         with self._wake:
             return [self.operator, *self._clients]
 
-    def take(self, most: int) -> list[tuple[Conversation, bytes]]:
-        """The next lines, at most so many, in the order in which they came."""
+    def take(self, most: int, most_bytes: int) -> list[tuple[Conversation, bytes]]:
+        """The next lines, in the order in which they came: at most so many, and none behind that with which they have so many bytes."""
         found: list[tuple[Conversation, bytes]] = []
+        size = 0
         ready = [each for each in self._all() if each.has_room() and each.lines.is_waiting()]
-        while ready and len(found) < most:
+        while ready and len(found) < most and size < most_bytes:
             each = min(ready, key=lambda each: each.lines.arrival())
-            lines = each.lines.take(most - len(found) if len(ready) == 1 else 1)
+            lines = each.lines.take(most - len(found) if len(ready) == 1 else 1, most_bytes - size)
             each.unanswered += len(lines)
             found += [(each, line) for line in lines]
+            size += sum(map(len, lines))
             if not each.lines.is_waiting():
                 ready.remove(each)
         return found

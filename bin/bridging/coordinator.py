@@ -17,13 +17,12 @@ from bridging.follower import MOST_LINE, NO_LINE, Follower, Waits, is_accepted
 from bridging.lines import Kind, kind_of
 from bridging.packets import number_of
 from bridging.stores import Store
+from bridging.turns import Turn
 
 # so many lines are told at once
 AT_ONCE = 512
 # so many bytes of answers are worked out at once
 MOST_AT_ONCE = 1 << 22
-# lines that are passed over at once have about so many bytes
-PORTION = 1 << 20
 # the follower renews itself when its history is full, which would change the numbers of deltas: so it is never let
 # come there
 FULL_HISTORY, MOST_ENTRIES = 1000000, 900000
@@ -54,15 +53,15 @@ class Coordinator:
         """How many deltas of its own were not cut yet: all from `own` on."""
         return self.deltas - self.own
 
-    def tell(self, lines: Sequence[bytes], most: int = MOST_AT_ONCE) -> tuple[list[bytes], bool]:
+    def tell(self, lines: Sequence[bytes], most: int = MOST_AT_ONCE, turn: Optional[Turn] = None) -> tuple[list[bytes], bool]:
         """The answers to an operator's lines, in order, and whether the accepted ones added something. Once the answers have
-        `most` bytes, or before a round, which may take long, no more lines are told, and there are fewer answers than
+        `most` bytes, or the turn is over, or before a round, which may take long, no more lines are told, and there are fewer answers than
         lines."""
         answers: list[bytes] = []
         has_added = False
         kinds, size = [kind_of(line) for line in lines], 0
         for first, end in parts(kinds):
-            if size >= most or (answers and kinds[first] is Kind.ROUND):
+            if size >= most or (answers and (kinds[first] is Kind.ROUND or (turn is not None and turn.is_over()))):
                 break
             some, is_more = self._tell(lines[first:end], kinds[first:end])
             answers += some
@@ -127,6 +126,11 @@ class Coordinator:
             raise Failure(FOLLOWER_ENDED, f"the follower does not say how many deltas it has: {answer.decode().strip()}")
         return int(words[2])
 
+    def winners(self) -> bytes:
+        """Which coordinator placed each task, and where."""
+        answer, = self._follower.ask([b'{"at":%d,"ask":"winners"}' % self.number])
+        return answer
+
     def _renew_now(self) -> None:
         answer, = self._follower.ask([b'{"renew":true}'])
         if not is_accepted(answer):
@@ -162,16 +166,15 @@ class Coordinator:
         self._skip()
         return self._cut({})
 
-    def take(self, packets: Sequence[bytes]) -> list[bool]:
-        """Takes packets in from others, of which each was accepted or refused. All its own deltas were cut before."""
+    def take(self, packets: Sequence[bytes]) -> list[bytes]:
+        """Takes packets in from others. Answers how the follower did. All its own deltas were cut before."""
         assert self.own == self.deltas
-        taken: list[bool] = []
-        for some in portions([take_line(self.number, packet) for packet in packets]):
-            taken += map(is_accepted, self._follower.ask(some))
-        self._entries += sum(taken)
-        self.deltas += sum(taken)
+        answers = self._follower.ask([take_line(self.number, packet) for packet in packets])
+        taken = sum(map(is_accepted, answers))
+        self._entries += taken
+        self.deltas += taken
         self.own = self.deltas
-        return taken
+        return answers
 
     def is_to_renew(self) -> bool:
         return self._entries >= self._renews_at
@@ -205,17 +208,4 @@ def parts(kinds: Sequence[Kind]) -> list[tuple[int, int]]:
         if kind not in (Kind.TELL, Kind.OURS) or place == len(kinds) - 1:
             found.append((begin, place + 1))
             begin = place + 1
-    return found
-
-
-def portions(lines: Sequence[bytes]) -> list[list[bytes]]:
-    """The lines in order, in lists of limited size."""
-    found: list[list[bytes]] = []
-    size = PORTION
-    for line in lines:
-        if size >= PORTION:
-            found.append([])
-            size = 0
-        found[-1].append(line)
-        size += len(line)
     return found

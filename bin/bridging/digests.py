@@ -38,13 +38,15 @@ def digest_in(text: bytes) -> Digest:
 @dataclasses.dataclass
 class _Source:
     """The last digest of a coordinator on this connection, whether it came when it was published rather than kept, and whether it says
-    something new. Whether a state came since something may be missing; if not, the digest may be in doubt."""
+    something new. Whether a state came since something may be missing; if not, the digest may be in doubt. Whether the state that the
+    broker keeps was refused."""
 
     digest: Optional[Digest] = None
     is_live: bool = False
     is_wanted: bool = False
     is_checked: bool = False
     is_doubted: bool = False
+    is_spoiled: bool = False
 
 
 class Sources:
@@ -53,7 +55,9 @@ class Sources:
     A state whose digest says something new is fetched; of several that say the same, one. A coordinator without a digest, as of a bridge
     that publishes none, is listened to as long as something may be missing from it. A digest may be older than its state, since an
     older bridge took the number: so at each refresh the state of a coordinator from which something may be missing is fetched once,
-    and a digest that does not fit it is not believed until there is another."""
+    and a digest that does not fit it is not believed until there is another.
+
+    A state that the broker keeps and that was refused is not fetched again. Its topic is listened to until another comes."""
 
     def __init__(self, coverage: Coverage, is_known: Callable[[bytes], bool]) -> None:
         self._coverage, self._is_known = coverage, is_known
@@ -71,10 +75,10 @@ class Sources:
             self._coverage.reached(sender, digest.number)
         return source.is_wanted
 
-    def came(self, sender: int, content: bytes) -> None:
+    def came(self, sender: int, content: bytes, was_kept: bool) -> None:
         """A state came, with which its digest fits or not."""
         source = self._sources[sender]
-        source.is_checked, source.is_doubted = True, False
+        source.is_checked, source.is_doubted, source.is_spoiled = True, False, source.is_spoiled and was_kept
         if source.digest is not None and source.digest.content != content and not source.is_live:
             source.digest = None
         if source.digest is None or source.digest.content == content:
@@ -97,11 +101,25 @@ class Sources:
         self._coverage.missed(sender)
         self._sources[sender].is_checked = self._sources[sender].is_live = False
 
+    def spoiled(self, sender: int) -> None:
+        """The state of the sender that the broker keeps was refused."""
+        self._sources[sender].is_spoiled = True
+
+    def unheard(self, sender: int, is_state: bool) -> None:
+        """A packet or a state of the sender was not heard."""
+        self.missed(sender)
+        if is_state:
+            self._sources[sender].is_spoiled = False
+
+    def settled(self) -> set[int]:
+        """The numbers of those whose states are listened to, and not fetched again."""
+        return {number for number, source in self._sources.items() if source.is_spoiled}
+
     def refresh(self) -> None:
         """States from which something may be missing are looked at once, whatever their digests say."""
         missing = self._coverage.missing()
         for number, source in self._sources.items():
-            source.is_doubted = number in missing and not source.is_checked
+            source.is_doubted = number in missing and not source.is_checked and not source.is_spoiled
 
     def forget(self) -> None:
         """The connection was lost, so packets may be missing of all."""
@@ -110,7 +128,7 @@ class Sources:
 
     def numbers(self) -> set[int]:
         """The numbers of those whose states are to come."""
-        found, first = set(), dict[bytes, int]()
+        found, first = self.settled(), dict[bytes, int]()
         missing = self._coverage.missing()
         for number, source in self._sources.items():
             if source.digest is None or source.is_doubted:

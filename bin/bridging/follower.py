@@ -28,6 +28,7 @@ SHORT = 1.0
 PRIVATE = 0o077
 OK = b"ok\n"
 NO_LINE = b"refusal 16\n"
+NO_MEMORY = b"refusal 1\n"
 
 
 def is_accepted(answer: bytes) -> bool:

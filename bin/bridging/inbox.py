@@ -1,20 +1,29 @@
 """What comes in: which of the packets that came are to be taken in, and what became of those that were."""
+import time
 from collections.abc import Sequence
-from typing import Optional
+from typing import TYPE_CHECKING, Optional
 
 from bridging.digests import Digest, Sources
-from bridging.mailbox import Parcel
-from bridging.outbox import Outbox
+from bridging.follower import NO_MEMORY, is_accepted
+from bridging.mailbox import Mail, Mailbox, Parcel
 from bridging.packets import Coverage, Seen, content_of, digest_of, is_empty, number_of
 from bridging.telling import Counts, Telling
+from bridging.turns import Patience, Source
+
+if TYPE_CHECKING:
+    # it needs paho-mqtt, and this module does not
+    from bridging.outbox import Outbox
 
 
 class Inbox:
     """Packets that were sent from here come back too, and so do packets that came before: neither is taken in. What
-    a packet says is judged by the follower alone, which refuses bytes that are none."""
+    a packet says is judged by the follower alone, which refuses bytes that are none. Who sends such is heard less often."""
 
-    def __init__(self, number: int, outbox: Outbox, counts: Counts, telling: Telling) -> None:
-        self._number, self._outbox, self._counts, self._telling = number, outbox, counts, telling
+    def __init__(self, number: int, mailbox: Mailbox, outbox: "Outbox", counts: Counts, telling: Telling) -> None:
+        self._number, self._mailbox, self._outbox, self._counts, self._telling = number, mailbox, outbox, counts, telling
+        self._patience = Patience()
+        # states of its own number are always looked at, since what it sent comes back so; until when those that others sent are not heard
+        self._own_states, self._own_shut_until = (number, True), 0.0
         self._digests, self._seen, self._coverage = Seen(), Seen(), Coverage()
         self.sources = Sources(self._coverage, self._is_known)
         # the state on the coordinator's own topic that the broker had kept when it was last asked, and the digest beside it
@@ -55,12 +64,15 @@ class Inbox:
             self._outbox.came_back(digest, parcel.was_kept)
         if parcel.sender == self._number and self._outbox.is_own(digest):
             return False
+        if parcel.source == self._own_states and time.monotonic() < self._own_shut_until:
+            self._counts.unheard += 1
+            return False
         self._counts.received += 1
         self._counts.received_bytes += len(parcel.packet)
         number, content = number_of(parcel.packet), content_of(parcel.packet)
         if parcel.is_state:
             is_covered = self._coverage.covers(parcel.sender, number, parcel.was_kept)
-            self.sources.came(parcel.sender, content)
+            self.sources.came(parcel.sender, content, parcel.was_kept)
             if is_covered or self._is_known(content):
                 self._counts.covered += 1
                 return False
@@ -74,16 +86,59 @@ class Inbox:
         self._seen.add(content)
         return True
 
-    def judged(self, parcels: Sequence[Parcel], taken: Sequence[bool]) -> bool:
+    def missed(self, mail: Mail) -> None:
+        """Packets were dropped since too many waited, or not heard."""
+        self._counts.dropped += sum(mail.dropped.values())
+        self._counts.unheard += sum(mail.unheard.values())
+        for sender in mail.dropped:
+            self.sources.missed(sender)
+        for sender, is_state in mail.unheard:
+            self.sources.unheard(sender, is_state)
+
+    def judged(self, parcels: Sequence[Parcel], answers: Sequence[bytes]) -> bool:
         """The follower took in some of the packets, and refused the others. Whether one that it took in says something."""
-        self._counts.taken += sum(taken)
-        for parcel, is_taken in zip(parcels, taken):
-            if not is_taken:
-                self._counts.refused += 1
-                self.sources.missed(parcel.sender)
-                self._seen.remove(content_of(parcel.packet))
-                self._digests.remove(digest_of(parcel.packet))
-                kind = "state" if parcel.is_state else "packet"
-                said = f"a {kind} of {len(parcel.packet)} bytes on the topic of coordinator {parcel.sender} is refused"
-                self._telling.say("refused", said, sender=parcel.sender, bytes=len(parcel.packet))
-        return any(is_taken and not is_empty(parcel.packet) for parcel, is_taken in zip(parcels, taken))
+        taken = [parcel for parcel, answer in zip(parcels, answers) if is_accepted(answer)]
+        broken = [parcel for parcel, answer in zip(parcels, answers) if not is_accepted(answer) and answer != NO_MEMORY]
+        for parcel, answer in zip(parcels, answers):
+            if not is_accepted(answer):
+                self._refuse(parcel)
+            if answer == NO_MEMORY:
+                self._telling.say("refused", f"{self._described(parcel)} is refused, since memory ran out", sender=parcel.sender,
+                                  bytes=len(parcel.packet))
+        for parcel in {parcel.source: parcel for parcel in broken}.values():
+            self._hear_less(parcel)
+        for source in {parcel.source for parcel in taken} - {parcel.source for parcel in broken}:
+            if self._patience.whole(source):
+                self._telling.say("heard", f"{self._named(source)} are heard as before", sender=source[0])
+        for parcel in broken:
+            if parcel.is_state and parcel.was_kept:
+                self.sources.spoiled(parcel.sender)
+        self._counts.taken += len(taken)
+        return any(not is_empty(parcel.packet) for parcel in taken)
+
+    def _refuse(self, parcel: Parcel) -> None:
+        """A packet was refused, and is none of those that were taken in."""
+        self._counts.refused += 1
+        self.sources.missed(parcel.sender)
+        self._seen.remove(content_of(parcel.packet))
+        self._digests.remove(digest_of(parcel.packet))
+
+    def _hear_less(self, parcel: Parcel) -> None:
+        """Packets of a source are broken, of which this is the last."""
+        seconds, is_longer = self._patience.broken(parcel.source)
+        if parcel.source == self._own_states:
+            self._own_shut_until = time.monotonic() + seconds
+        else:
+            self._mailbox.shut_out(parcel.source, seconds)
+        if is_longer:
+            said = f"{self._described(parcel)} is refused: {self._named(parcel.source)} are not heard for {seconds:g} s"
+            self._telling.say("refused", said, sender=parcel.sender, bytes=len(parcel.packet), seconds=seconds)
+
+    @staticmethod
+    def _described(parcel: Parcel) -> str:
+        kind = "state" if parcel.is_state else "packet"
+        return f"a {kind} of {len(parcel.packet)} bytes on the topic of coordinator {parcel.sender}"
+
+    @staticmethod
+    def _named(source: Source) -> str:
+        return f"{'states' if source[1] else 'packets'} of coordinator {source[0]}"

@@ -3,6 +3,7 @@ import collections
 import enum
 import itertools
 import json
+import math
 import re
 import threading
 from typing import Optional
@@ -69,7 +70,8 @@ def kind_of_value(value: object) -> Kind:
 
 
 class Room:
-    """How many bytes of lines wait, and how many of lines that have no end yet: of one conversation, or of several together."""
+    """How many bytes of lines wait, and how many of lines that have no end yet, beyond their lesser bound if they have one: of one
+    conversation, or of several together."""
 
     def __init__(self) -> None:
         self.waiting = self.unfinished = 0
@@ -99,11 +101,15 @@ class Lines:
     def start(self) -> None:
         threading.Thread(target=self._read_all, daemon=True).start()
 
-    def take(self, most: int) -> list[bytes]:
-        """The next lines, at most so many."""
+    def take(self, most: int, most_bytes: float = math.inf) -> list[bytes]:
+        """The next lines: at most so many, and none behind that with which they have so many bytes."""
+        taken: list[bytes] = []
+        size = 0
         with self._wake:
-            taken = [self._waiting.popleft()[1] for _ in range(min(most, len(self._waiting)))]
-            self._room.waiting -= sum(map(len, taken))
+            while self._waiting and len(taken) < most and size < most_bytes:
+                taken.append(self._waiting.popleft()[1])
+                size += len(taken[-1])
+            self._room.waiting -= size
             if taken:
                 self._wake.notify_all()
         return taken
@@ -172,11 +178,14 @@ class Lines:
         return self._longest is not None and len(self._piece) + more > self._longest
 
     def _grow(self, piece: bytes, counted: int) -> None:
-        """The line goes on with the piece, of which so many bytes stay, since the line has no end yet."""
+        """The line goes on with the piece, of which so many bytes stay, since the line has no end yet. Those beyond the lesser bound count."""
         self._is_long = self._is_long or len(self._piece) + len(piece) > MOST_LINE
         if self._is_bound is None and self._is_beyond(len(piece)):
             self._is_bound = TAKE_BEGINS.match(self._piece + piece) is None
         self._is_long = self._is_long or self._is_bound is True
+        if self._longest is not None:
+            # so that who begins a long line does not keep others from usual ones
+            counted = max(0, min(counted, len(self._piece) + len(piece) - self._longest))
         if counted and not self._is_long:
             with self._wake:
                 self._is_long = self._room.unfinished + counted > MOST_LINE

@@ -1,10 +1,14 @@
 """What the thread of a connection hands to the thread of the bridge, with a bound on what waits."""
 import collections
 import dataclasses
+import itertools
 import threading
+import time
 from typing import Optional
 
 from bridging.digests import Digest
+from bridging.packets import NUMBERS
+from bridging.turns import Source
 
 # what waits has at most so many bytes, whatever the bound on its count
 MOST_BYTES = 1 << 26
@@ -23,15 +27,20 @@ class Parcel:
     was_kept: bool
     digest: Optional[Digest] = None
 
+    @property
+    def source(self) -> Source:
+        """By what it is heard or not."""
+        return self.sender, self.is_state
+
 
 @dataclasses.dataclass
 class Mail:
-    """What came since it was last collected: packets in order; the messages of one's own that the broker
-    acknowledged; from whom a packet was dropped; how many were too large, or of no sender; and what is to be said."""
+    """What came since it was last collected, but for packets: the messages of one's own that the broker acknowledged; from whom a
+    packet was dropped, or not heard; how many were too large, or of no sender; and what is to be said."""
 
-    parcels: list[Parcel] = dataclasses.field(default_factory=list)
     acknowledged: list[Message] = dataclasses.field(default_factory=list)
     dropped: collections.Counter[int] = dataclasses.field(default_factory=collections.Counter)
+    unheard: collections.Counter[Source] = dataclasses.field(default_factory=collections.Counter)
     too_large: int = 0
     strange: int = 0
     notes: list[str] = dataclasses.field(default_factory=list)
@@ -39,13 +48,15 @@ class Mail:
 
 class Mailbox:
     """Mail is put in by one thread and collected by another. If too much waits, what comes then is dropped and
-    counted: the states that the broker keeps have it, so it is not lost."""
+    counted: the states that the broker keeps have it, so it is not lost. So is what comes of a sender that is not heard for a time."""
 
     def __init__(self, wake: threading.Condition, most: int, most_packet: int) -> None:
         self._wake, self._most, self._most_packet = wake, most, most_packet
         self._mail, self._bytes, self._count = Mail(), 0, 0
         # by number, or by sender if it is a state or a digest: a later one of a sender takes the place of one that still waits
         self._parcels: dict[tuple[str, int], Parcel] = {}
+        # until when who is not heard
+        self._shut: dict[Source, float] = {}
 
     def put(self, parcel: Parcel) -> None:
         size = len(parcel.packet)
@@ -54,6 +65,9 @@ class Mailbox:
             key = ("state", parcel.sender) if parcel.is_state else ("news", self._count)
             if size > self._most_packet:
                 self._mail.too_large += 1
+            elif size and time.monotonic() < self._shut.get(parcel.source, 0.0):
+                self._mail.unheard[parcel.source] += 1
+                return
             # a state that is taken away from the broker comes as no bytes
             elif size:
                 old = self._parcels.pop(key, None)
@@ -105,12 +119,36 @@ class Mailbox:
     def has_packets(self) -> bool:
         return bool(self._parcels)
 
-    def collect(self, with_packets: bool) -> Mail:
-        """What came, and from then on nothing waits; without packets these stay."""
+    def is_waiting_from(self, sender: int) -> bool:
+        """Whether a state of the sender waits, or the digest of one."""
+        return ("state", sender) in self._parcels or ("digest", sender) in self._parcels
+
+    def collect(self) -> Mail:
+        """What came but for packets, which stay."""
         with self._wake:
             mail, self._mail = self._mail, Mail()
-            if with_packets:
-                mail.parcels = list(self._parcels.values())
-                self._parcels.clear()
-                self._bytes = 0
             return mail
+
+    def take(self, most: int, most_bytes: int) -> list[Parcel]:
+        """The next packets: at most so many, and of so many bytes together if it is not one alone. Digests of states do not count."""
+        taken: list[Parcel] = []
+        with self._wake:
+            count = size = 0
+            for key, parcel in list(itertools.islice(self._parcels.items(), most + len(NUMBERS))):
+                count += parcel.digest is None
+                size += len(parcel.packet)
+                if taken and (count > most or size > most_bytes):
+                    break
+                taken.append(self._parcels.pop(key))
+            self._bytes -= sum(len(parcel.packet) for parcel in taken)
+        return taken
+
+    def shut_out(self, source: Source, seconds: float) -> None:
+        """A source is not heard for so long, and what waits of it is not either."""
+        with self._wake:
+            self._shut[source] = time.monotonic() + seconds
+            found = [key for key, parcel in self._parcels.items() if parcel.source == source and parcel.digest is None]
+            for key in found:
+                self._bytes -= len(self._parcels.pop(key).packet)
+            if found:
+                self._mail.unheard[source] += len(found)

@@ -100,11 +100,11 @@ Statuses: 0 all was sent; 2 wrong words; 10 no paho-mqtt; 11 no program; 12 no b
 18 answers could not be written, or were not read; 19 no socket for clients. docs/several-machines.md says what `ok` guarantees, and
 what the topics are.
 
-Bounds of what waits, in bytes: lines that were read, 128 MiB of standard input and as much of all clients, and of lines that have no
-end yet 64 MiB each; answers that wait to be confirmed, and that wait to be read by one reader, 16 MiB each and one answer; answers that
-are worked out at once, 4 MiB and one answer; packets that came, and packets for the broker, 64 MiB each and one packet; what is said on
-standard error, 1 MiB. Beyond these bounds no lines are read, a client that does not read is cut off, packets are left to a state, and
-what would be said is counted and left out. There are at most 64 clients at once.
+Bounds of what waits, in bytes: lines that were read, 128 MiB of standard input and as much of all clients, and of lines that have no end
+yet 64 MiB each, and of each client the longest line that it may send; answers that wait to be confirmed, and that wait to be read by one
+reader, 16 MiB each and one answer; answers that are worked out at once, 4 MiB and one answer; packets that came, and packets for the
+broker, 64 MiB each and one packet; what is said on standard error, 1 MiB. Beyond these bounds no lines are read, a client that does not
+read is cut off, packets are left to a state, and what would be said is counted and left out. There are at most 64 clients at once.
 """
 # names of times and counts, how each is read, what it is if it is not given, and what it is for
 TIMES: tuple[tuple[str, Callable[[str], float], float, str], ...] = (

@@ -1,7 +1,7 @@
 """A sketch of a long line: the names of the outermost members of its object, without their values.
 
-A line of many small values takes some twenty times its bytes when it is decoded. A sketch is made piece by piece, and takes a few pieces. It
-is right of each line that is JSON. Of another line it may say anything: the follower refuses such a line.
+A line of many small values takes some twenty times its bytes when it is decoded. A sketch is made piece by piece, and takes a few
+pieces. It is right of each line that is JSON. Of another line it may say anything: the follower refuses such a line.
 """
 import contextlib
 import json
@@ -103,7 +103,10 @@ def gone_on(inside: Inside, piece: bytes) -> Optional[Inside]:
     closed = len(left) - opened
     if closed and closed >= inside.depth:
         return None
-    return Inside(inside.depth - closed + opened, inside.in_string != (len(parts) % 2 == 0), text.endswith(b"\\"))
+    depth = inside.depth - closed + opened
+    if depth > DEEPEST:
+        raise ValueError("nested too deep")
+    return Inside(depth, inside.in_string != (len(parts) % 2 == 0), text.endswith(b"\\"))
 
 
 def unpaired(brackets: bytes) -> bytes:

@@ -29,6 +29,7 @@ class Counts:
     covered: int = 0
     not_fetched: int = 0
     refused: int = 0
+    unheard: int = 0
     dropped: int = 0
     too_large: int = 0
     strange: int = 0
@@ -48,7 +49,7 @@ class Counts:
                 f"({self.states_sent_bytes} bytes) sent, {self.left_to_state} left to a state; "
                 f"{self.received} received ({self.received_bytes} bytes): {self.taken} taken in, "
                 f"{self.repeated} repeated, {self.covered} known by other packets, "
-                f"{self.not_fetched} states known by their digests, {self.refused} refused, "
+                f"{self.not_fetched} states known by their digests, {self.refused} refused, {self.unheard} not heard, "
                 f"{self.dropped} dropped, {self.too_large} too large, {self.strange} of no coordinator; "
                 f"{self.unacknowledged} not acknowledged, {self.lost_connections} connections lost")
 
