@@ -169,6 +169,13 @@ def judging(_program):
     yield "what is said: %s" % said.events, said.events == [("refused", more) for more in wanted]
     for parcel in parcels:
         box.put(parcel)
+    # another connection, on which all that is kept would come again
+    inbox.sources.forget()
+    yield "whose states are listened to", inbox.listened() == set(range(1, 65)) - {5}
+    box.put(mailbox_of.Parcel(3, bytes(101), True, True))
+    inbox.missed(box.collect())
+    yield "one that is too large is not fetched again", inbox.sources.settled() == {3} and inbox.listened() == set(range(1, 65)) - {5}
+    yield "and not soon on another connection", not inbox.sources.forget() and inbox.listened() == set(range(1, 65)) - {3, 5}
     sources = [parcel.sender for parcel in box.take(9, 999)]
     yield "who is heard: %s" % sources, sources == [4, 6, 8]
 
@@ -221,7 +228,7 @@ def own_topic(program):
         yield "ended", ended([bridge])
 
 
-SIZE = 200_000
+SIZE = 20_000
 
 
 def kept_rubbish(program):
