@@ -138,7 +138,7 @@ def counted(program):
             yield "a round", one.run_round(b'{"at":1,"round":true}')[1] and fits(one, 21, 21)
             one.cut_news(with_state=True)
             yield "cut", fits(one, 21, 0)
-            yield "taken in", one.take([packet_of(told[20:], number=1), b"none"]) == [True, False] and fits(one, 22, 0)
+            yield "taken in", one.take([packet_of(told[20:], number=1), b"none"]) == [b"ok\n", b"refusal 6\n"] and fits(one, 22, 0)
             one.renew()
             yield "renewed", fits(one, 1, 0)
             yield "told then", one.tell(lines[:2])[1] and fits(one, 3, 2)

@@ -307,33 +307,43 @@ def heavy_lines(_program):
                 yield "a line of 63 MB, %r: %d MB" % (line, peak(run)), peak(run) < BESIDE_MEGABYTES + LINE_MEGABYTES
 
 
-def longest_lines(program):
+# refuses packets and empty lines as the program does, and answers all else by its length
+MEASURING = """#!/usr/bin/env python3
+import sys
+for line in sys.stdin.buffer:
+    text = b"end 0 0\\n" if b'"end"' in line else b"" if b'"coordinators"' in line else b"%d\\n" % (len(line) - 1)
+    sys.stdout.buffer.write(b"refusal 16\\n" if line == b"\\n" else b"refusal 6\\n" if b'"take"' in line else text + b"ok\\n")
+    sys.stdout.buffer.flush()
+"""
+
+
+def longest_lines(_program):
     """A line of a client has a bound, which an option changes; a take and a line of standard input have that of the follower."""
-    usual, end = 1 << 20, b"end 0 0\nok\n"
-    asked = lambda size: b'{"at":1,"ask":"end"%s}\n' % (b" " * (size - 20))
+    usual, refused_here, handed_over = 1 << 20, b"refusal 16\n", b"refusal 6\n"
+    asked = lambda size: b'{"ask":"version"%s}\n' % (b" " * (size - 17))
     digits = b"46" * usual
-    with tempfile.TemporaryDirectory() as folder, running(program, []) as (broker, _):
-        path = f"{folder}/door"
-        with Bridge(broker.port, 1, *QUICK, "--listen", path, program=program) as bridge:
+    with tempfile.TemporaryDirectory() as folder, running(None, []) as (broker, _):
+        path, program = f"{folder}/door", made(folder, "measuring", MEASURING)
+        wait = ["--connect-wait", str(brokers.PATIENCE)]
+        with Bridge(broker.port, 1, *QUICK, *wait, "--listen", path, program=program) as bridge:
             bridge.ask({"ask": "version"})
             with Talk(path) as client:
                 for name, line, answer in (
-                        ("as long as may be", asked(usual), end), ("a byte longer", asked(usual + 1), b"refusal 16\n"),
-                        ("much longer", asked(5 * usual), b"refusal 16\n"),
-                        ("a take", b'{"at":1,"take":"%s"}\n' % digits, b"refusal 6\n"),
-                        ("a take with its number behind", b' { "take" : "%s" , "at" : 1 } \n' % digits, b"refusal 6\n"),
-                        ("a take with more than digits", b'{"at":1,"take":"%s ","at":1}\n' % digits, b"refusal 16\n"),
-                        ("a take with more members", b'{"at":1,"take":"%s","at":1,"at":1}\n' % digits, b"refusal 16\n"),
-                        ("what only looks like one", b'{"at":1,"take":"46","x":"%s"}\n' % digits, b"refusal 16\n"),
-                        ("the next one", asked(100), end)):
+                        ("as long as may be", asked(usual), b"1048576\nok\n"), ("a byte longer", asked(usual + 1), refused_here),
+                        ("much longer", asked(5 * usual), refused_here), ("a take", b'{"at":1,"take":"%s"}\n' % digits, handed_over),
+                        ("a take with its number behind", b' { "take" : "%s" , "at" : 1 } \n' % digits, handed_over),
+                        ("a take with more than digits", b'{"at":1,"take":"%s ","at":1}\n' % digits, refused_here),
+                        ("a take with more members", b'{"at":1,"take":"%s","at":1,"at":1}\n' % digits, refused_here),
+                        ("what only looks like one", b'{"at":1,"take":"46","x":"%s"}\n' % digits, refused_here),
+                        ("the next one", asked(100), b"100\nok\n")):
                     found = client.ask(line)
                     yield "%s: %r" % (name, found[-40:]), found == answer
-            yield "standard input has no such bound", bridge.ask(asked(5 * usual)[:-1].decode()) == end
-        with Bridge(broker.port, 2, *QUICK, "--listen", path, "--longest-line", "1000", program=program) as bridge:
+            yield "standard input has no such bound", bridge.ask(asked(5 * usual)[:-1].decode()) == b"5242880\nok\n"
+        with Bridge(broker.port, 2, *QUICK, *wait, "--listen", path, "--longest-line", "1000", program=program) as bridge:
             bridge.ask({"ask": "version"})
             with Talk(path) as client:
-                yield "another bound", client.ask(asked(1001) + asked(1000), 2) == b"refusal 16\nrefusal 8\n"
-                yield "and a take", client.ask(b'{"at":2,"take":"%s"}\n' % digits) == b"refusal 6\n"
+                yield "another bound", client.ask(asked(1001) + asked(1000), 2) == refused_here + b"1000\nok\n"
+                yield "and a take", client.ask(b'{"at":2,"take":"%s"}\n' % digits) == handed_over
 
 
 def drawn_value(chance, depth=0):

@@ -299,7 +299,7 @@ def configured(program):
             broker.start()
             with Bridge(broker.port, 2, *QUICK, *user("two"), cluster="blue", program=program) as bridge:
                 yield "what was confirmed is there", agree([bridge], told, 20) and ended([bridge])
-            found = refused(broker.port, "--number", "1", "--connect-wait", "1", *user("two"), cluster="blue", program=program)
+            found = refused(broker.port, "--number", "1", "--connect-wait", "5", *user("two"), cluster="blue", program=program)
             yield "another's number: %r" % found[2], is_refused(found, 13, b"hello/1")
 
 

@@ -176,7 +176,7 @@ class Bridge:
 
     def _fetch_states(self) -> None:
         """Fetches the states that the broker keeps and that say something new, and takes them in, if they come in time."""
-        if self._broker.hear_states(self._inbox.sources.numbers() | {self._settings.number}):
+        if self._broker.hear_states(self._inbox.listened()):
             self._broker.claim(is_new=False)
             end = time.monotonic() + self._settings.connect_wait
             while not self._claim.is_back() and not self._claim.is_lost and not self._stopping and time.monotonic() < end:
@@ -259,7 +259,7 @@ class Bridge:
             # news of nothing, by whose number the others see that they need the state
             self._outbox.send_news(self._coordinator.cut_news(with_state=False)[0])
         if self._can_send_state():
-            self._broker.hear_states(self._inbox.sources.numbers() | {self._settings.number})
+            self._broker.hear_states(self._inbox.listened())
         self._answers.let_go(self._outbox.confirmed if self._settings.is_confirmed else self._accepted)
         for unread in self._conversations.tidy():
             self._counts.cut_off += 1

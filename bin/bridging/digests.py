@@ -102,7 +102,7 @@ class Sources:
         self._sources[sender].is_checked = self._sources[sender].is_live = False
 
     def spoiled(self, sender: int) -> None:
-        """The state of the sender that the broker keeps was refused."""
+        """The state of the sender that the broker keeps was refused, or is too large."""
         self._sources[sender].is_spoiled = True
 
     def unheard(self, sender: int, is_state: bool) -> None:

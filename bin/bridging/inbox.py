@@ -87,13 +87,21 @@ class Inbox:
         return True
 
     def missed(self, mail: Mail) -> None:
-        """Packets were dropped since too many waited, or not heard."""
+        """Packets were dropped since too many waited, or were too large, or not heard."""
         self._counts.dropped += sum(mail.dropped.values())
         self._counts.unheard += sum(mail.unheard.values())
         for sender in mail.dropped:
             self.sources.missed(sender)
         for sender, is_state in mail.unheard:
             self.sources.unheard(sender, is_state)
+        for sender, size in mail.spoiled.items():
+            self._hear_less((sender, True), size)
+            self.sources.spoiled(sender)
+
+    def listened(self) -> set[int]:
+        """The numbers of those whose states are to come: not while they are not heard, if one that the broker keeps would come again."""
+        settled = self.sources.settled()
+        return (self.sources.numbers() - (self._mailbox.unheard_states() - settled)) | {self._number}
 
     def judged(self, parcels: Sequence[Parcel], answers: Sequence[bytes]) -> bool:
         """The follower took in some of the packets, and refused the others. Whether one that it took in says something."""
@@ -103,13 +111,13 @@ class Inbox:
             if not is_accepted(answer):
                 self._refuse(parcel)
             if answer == NO_MEMORY:
-                self._telling.say("refused", f"{self._described(parcel)} is refused, since memory ran out", sender=parcel.sender,
+                self._telling.say("refused", f"{described(parcel.source, len(parcel.packet))} is refused, since memory ran out", sender=parcel.sender,
                                   bytes=len(parcel.packet))
-        for parcel in {parcel.source: parcel for parcel in broken}.values():
-            self._hear_less(parcel)
+        for source, size in {parcel.source: len(parcel.packet) for parcel in broken}.items():
+            self._hear_less(source, size)
         for source in {parcel.source for parcel in taken} - {parcel.source for parcel in broken}:
             if self._patience.whole(source):
-                self._telling.say("heard", f"{self._named(source)} are heard as before", sender=source[0])
+                self._telling.say("heard", f"{named(source)} are heard as before", sender=source[0])
         for parcel in broken:
             if parcel.is_state and parcel.was_kept:
                 self.sources.spoiled(parcel.sender)
@@ -123,22 +131,23 @@ class Inbox:
         self._seen.remove(content_of(parcel.packet))
         self._digests.remove(digest_of(parcel.packet))
 
-    def _hear_less(self, parcel: Parcel) -> None:
-        """Packets of a source are broken, of which this is the last."""
-        seconds, is_longer = self._patience.broken(parcel.source)
-        if parcel.source == self._own_states:
+    def _hear_less(self, source: Source, size: int) -> None:
+        """Packets of a source are broken, of which the last one has so many bytes."""
+        seconds, is_longer = self._patience.broken(source)
+        if source == self._own_states:
             self._own_shut_until = time.monotonic() + seconds
         else:
-            self._mailbox.shut_out(parcel.source, seconds)
+            self._mailbox.shut_out(source, seconds)
         if is_longer:
-            said = f"{self._described(parcel)} is refused: {self._named(parcel.source)} are not heard for {seconds:g} s"
-            self._telling.say("refused", said, sender=parcel.sender, bytes=len(parcel.packet), seconds=seconds)
+            said = f"{described(source, size)} is refused: {named(source)} are not heard for {seconds:g} s"
+            self._telling.say("refused", said, sender=source[0], bytes=size, seconds=seconds)
 
-    @staticmethod
-    def _described(parcel: Parcel) -> str:
-        kind = "state" if parcel.is_state else "packet"
-        return f"a {kind} of {len(parcel.packet)} bytes on the topic of coordinator {parcel.sender}"
 
-    @staticmethod
-    def _named(source: Source) -> str:
-        return f"{'states' if source[1] else 'packets'} of coordinator {source[0]}"
+def described(source: Source, size: int) -> str:
+    """A packet of so many bytes, as an operator is told of it."""
+    return f"a {'state' if source[1] else 'packet'} of {size} bytes on the topic of coordinator {source[0]}"
+
+
+def named(source: Source) -> str:
+    """A source, as an operator is told of it."""
+    return f"{'states' if source[1] else 'packets'} of coordinator {source[0]}"

@@ -36,11 +36,13 @@ class Parcel:
 @dataclasses.dataclass
 class Mail:
     """What came since it was last collected, but for packets: the messages of one's own that the broker acknowledged; from whom a
-    packet was dropped, or not heard; how many were too large, or of no sender; and what is to be said."""
+    packet was dropped, or not heard; whose kept state is too large, with its bytes; how many packets were too large, or of no sender;
+    and what is to be said."""
 
     acknowledged: list[Message] = dataclasses.field(default_factory=list)
     dropped: collections.Counter[int] = dataclasses.field(default_factory=collections.Counter)
     unheard: collections.Counter[Source] = dataclasses.field(default_factory=collections.Counter)
+    spoiled: dict[int, int] = dataclasses.field(default_factory=dict)
     too_large: int = 0
     strange: int = 0
     notes: list[str] = dataclasses.field(default_factory=list)
@@ -65,6 +67,8 @@ class Mailbox:
             key = ("state", parcel.sender) if parcel.is_state else ("news", self._count)
             if size > self._most_packet:
                 self._mail.too_large += 1
+                if parcel.is_state and parcel.was_kept:
+                    self._mail.spoiled[parcel.sender] = size
             elif size and time.monotonic() < self._shut.get(parcel.source, 0.0):
                 self._mail.unheard[parcel.source] += 1
                 return
@@ -142,6 +146,11 @@ class Mailbox:
                 taken.append(self._parcels.pop(key))
             self._bytes -= sum(len(parcel.packet) for parcel in taken)
         return taken
+
+    def unheard_states(self) -> set[int]:
+        """The numbers of those whose states are not heard now."""
+        now = time.monotonic()
+        return {sender for (sender, is_state), until in self._shut.items() if is_state and now < until}
 
     def shut_out(self, source: Source, seconds: float) -> None:
         """A source is not heard for so long, and what waits of it is not either."""
