@@ -1,5 +1,5 @@
 -- A store that grows by packets, one after another.
-use Rattle.std.proofs.Common.{◌≡◌, ◌⊎◌, ◌<◌, ◌≤◌, ◌-◌, ◌^◌, ℕ, Bool, cond, List, [], ◌∷◌, ◌++◌, take, length, Option, Some, None, is_some, IfSome, refl, sym, ap, ◌∙◌, subst, inl, inr, le_refl, append_assoc}
+use Rattle.std.proofs.Common.{◌≡◌, ◌⊎◌, ◌<◌, ◌≤◌, ◌-◌, ◌^◌, ℕ, Bool, true, cond, List, [], ◌∷◌, ◌++◌, take, length, Option, Some, None, is_some, IfSome, refl, sym, ap, ◌∙◌, subst, inl, inr, le_refl, append_assoc}
 use Rattle.std.proofs.KnownBytes.{Appends-nil, Appends-trans}
 use Rattle.std.proofs.lemmas.Bool.{cases_lt, lt-leb}
 use Rattle.std.proofs.lemmas.List.{append-nil, take_all}
@@ -35,18 +35,30 @@ grows_more old mid new packets p grows packet fits appended alike head ps h =
     subst (λ (qs : List Packet). IfSome new (IsStoreOf head qs)) (append_assoc ps packets (p ∷ []))
     (pushed mid new head (ps ++ packets) p (grows head ps h) packet fits appended alike)
 
-pub store_in : (o : Option (List ℕ)) (synced : ℕ) (head : HeadModel) (ps : List Packet) → IfSome o (λ all. IsStoreOf head ps all × (synced ≡ length all)) → IfSome o (IsStoreOf head ps)
-store_in None synced head ps h = tt
-store_in (Some all) synced head ps h = h.0
+-- what `HoldsStore` says, of the parts of a device
+abbrev pub Held : Option (List ℕ) → ℕ → Bool → HeadModel → List Packet → Type 0
+Held content synced sound head packets = IfSome content (λ all. IsStoreOf head packets all × (synced ≡ length all) × (sound ≡ true))
 
-pub both_in : (o : Option (List ℕ)) (synced : ℕ) (head : HeadModel) (ps : List Packet) → IfSome o (IsStoreOf head ps) → IfSome o (λ all. synced ≡ length all) → IfSome o (λ all. IsStoreOf head ps all × (synced ≡ length all))
-both_in None synced head ps h s = tt
-both_in (Some all) synced head ps h s = (h, s)
+pub store_in : (o : Option (List ℕ)) (synced : ℕ) (sound : Bool) (head : HeadModel) (ps : List Packet) → Held o synced sound head ps → IfSome o (IsStoreOf head ps)
+store_in None synced sound head ps h = tt
+store_in (Some all) synced sound head ps h = h.0
+
+pub held_in : (o : Option (List ℕ)) (synced : ℕ) (sound : Bool) (head : HeadModel) (ps : List Packet) → IfSome o (IsStoreOf head ps) → IfSome o (λ all. synced ≡ length all) → sound ≡ true
+    → Held o synced sound head ps
+held_in None synced sound head ps h s so = tt
+held_in (Some all) synced sound head ps h s so = (h, s, so)
+
+grown_in : (o n : Option (List ℕ)) (synced then : ℕ) (was is : Bool) (packets : List Packet) → Grows o n packets → (was ≡ true → IfSome n (λ all. then ≡ length all)) → is ≡ was → is_some o ≡ is_some n
+    → (head : HeadModel) (ps : List Packet) → Held o synced was head ps → Held n then is head (ps ++ packets)
+grown_in None None synced then was is packets grows on_disk same alike head ps h = tt
+grown_in None (Some y) synced then was is packets grows on_disk same alike head ps h = absurd (let no : ⊥ = cc in no)
+grown_in (Some x) None synced then was is packets grows on_disk same alike head ps h = tt
+grown_in (Some x) (Some y) synced then was is packets grows on_disk same alike head ps h = (grows head ps h.0, on_disk h.2, same ∙ h.2)
 
 -- once that is on the disk, the device holds a store with these packets more
-pub holds_grown : (old new : DeviceModel) (packets : List Packet) → Grows old.content new.content packets → IfSome new.content (λ all. new.synced ≡ length all)
-    → (head : HeadModel) (ps : List Packet) → HoldsStore old head ps → HoldsStore new head (ps ++ packets)
-holds_grown old new packets grows synced head ps h = both_in new.content new.synced head (ps ++ packets) (grows head ps (store_in old.content old.synced head ps h)) synced
+pub holds_grown : (old new : DeviceModel) (packets : List Packet) → Grows old.content new.content packets → (old.sound ≡ true → IfSome new.content (λ all. new.synced ≡ length all))
+    → new.sound ≡ old.sound → is_some old.content ≡ is_some new.content → (head : HeadModel) (ps : List Packet) → HoldsStore old head ps → HoldsStore new head (ps ++ packets)
+holds_grown old new packets grows on_disk same alike head ps h = grown_in old.content new.content old.synced new.synced old.sound new.sound packets grows on_disk same alike head ps h
 
 pub holds_same : (device : DeviceModel) (head : HeadModel) (ps : List Packet) → HoldsStore device head ps → HoldsStore device head (ps ++ [])
 holds_same device head ps h = subst (λ (qs : List Packet). HoldsStore device head qs) (sym (append-nil ps)) h
@@ -147,12 +159,12 @@ more_then old mid new bytes h appended synced =
 more_same : (old mid new : DeviceModel) → HoldsMore old mid → new.content ≡ mid.content → new.synced ≡ mid.synced → HoldsMore old new
 more_same old mid new h content synced = record { more = h.more; content = subst (λ (o : Option (List ℕ)). Appends old.content o h.more) (sym content) h.content; synced = synced ∙ h.synced }
 
-front_in : (o n : Option (List ℕ)) (synced then : ℕ) (more : List ℕ) (head : HeadModel) (ps : List Packet) → IfSome o (λ all. IsStoreOf head ps all × (synced ≡ length all)) → Appends o n more
+front_in : (o n : Option (List ℕ)) (synced then : ℕ) (sound : Bool) (more : List ℕ) (head : HeadModel) (ps : List Packet) → Held o synced sound head ps → Appends o n more
     → is_some o ≡ is_some n → then ≡ synced → IfSome n (HasStoreWith head ps) → IfSome n (HasStoreFront head ps then)
-front_in None None synced then more head ps h appended alike kept found = tt
-front_in None (Some y) synced then more head ps h appended alike kept found = absurd (let no : ⊥ = cc in no)
-front_in (Some x) None synced then more head ps h appended alike kept found = absurd appended
-front_in (Some x) (Some y) synced then more head ps h appended alike kept found = record {
+front_in None None synced then sound more head ps h appended alike kept found = tt
+front_in None (Some y) synced then sound more head ps h appended alike kept found = absurd (let no : ⊥ = cc in no)
+front_in (Some x) None synced then sound more head ps h appended alike kept found = absurd appended
+front_in (Some x) (Some y) synced then sound more head ps h appended alike kept found = record {
   front = x;
   more = more;
   is = appended;
@@ -165,8 +177,8 @@ front_in (Some x) (Some y) synced then more head ps h appended alike kept found 
 
 pub front_none : (device : DeviceModel) (head : HeadModel) (ps : List Packet) → HoldsStore device head ps → HoldsFront device head ps
 front_none device head ps h =
-    front_in device.content device.content device.synced device.synced [] head ps h (Appends-nil device.content) refl refl
-    (found_store device.content head ps (store_in device.content device.synced head ps h))
+    front_in device.content device.content device.synced device.synced device.sound [] head ps h (Appends-nil device.content) refl refl
+    (found_store device.content head ps (store_in device.content device.synced device.sound head ps h))
 
 -- a packet could not be added, and a front of its record is there
 pub front_part : (old mid new : DeviceModel) (qs : List Packet) (p : Packet) (count : ℕ) → HoldsMore old mid → Grows old.content mid.content qs → Appends mid.content new.content (take count (frame (spelling p)))
@@ -174,14 +186,14 @@ pub front_part : (old mid new : DeviceModel) (qs : List Packet) (p : Packet) (co
     → (head : HeadModel) (ps : List Packet) → HoldsStore old head ps → HoldsFront new head ps
 front_part old mid new qs p count h grows appended part synced alike alike_mid head ps store =
     let more = more_then old mid new (take count (frame (spelling p))) h appended synced in
-    let grown = grows head ps (store_in old.content old.synced head ps store) in
+    let grown = grows head ps (store_in old.content old.synced old.sound head ps store) in
     let found = found_all new.content head ps qs (found_in mid.content new.content head (ps ++ qs) p count grown appended part alike_mid) in
-    front_in old.content new.content old.synced new.synced more.more head ps store more.content alike more.synced found
+    front_in old.content new.content old.synced new.synced old.sound more.more head ps store more.content alike more.synced found
 
 -- all packets were added, and it is not known whether they are on the disk
 pub front_added : (old mid new : DeviceModel) (qs : List Packet) → HoldsMore old mid → Grows old.content mid.content qs → new.content ≡ mid.content → new.synced ≡ mid.synced
     → is_some old.content ≡ is_some new.content → (head : HeadModel) (ps : List Packet) → HoldsStore old head ps → HoldsFront new head ps
 front_added old mid new qs h grows content synced alike head ps store =
     let more = more_same old mid new h content synced in
-    let grown = subst (λ (o : Option (List ℕ)). IfSome o (IsStoreOf head (ps ++ qs))) (sym content) (grows head ps (store_in old.content old.synced head ps store)) in
-    front_in old.content new.content old.synced new.synced more.more head ps store more.content alike more.synced (found_all new.content head ps qs (found_store new.content head (ps ++ qs) grown))
+    let grown = subst (λ (o : Option (List ℕ)). IfSome o (IsStoreOf head (ps ++ qs))) (sym content) (grows head ps (store_in old.content old.synced old.sound head ps store)) in
+    front_in old.content new.content old.synced new.synced old.sound more.more head ps store more.content alike more.synced (found_all new.content head ps qs (found_store new.content head (ps ++ qs) grown))

@@ -61,8 +61,8 @@ more_in (Some x) own qs more h = (more ++ h.0, h.1, subst (λ (xs : List Packet)
 -- a store that grew
 pub keeps_grown : (old new : DeviceModel) → is_some old.content ≡ is_some new.content → (own : HeadModel) (qs more : List Packet) → HoldsStore old own qs → HoldsStore new own (qs ++ more) → KeepsStores old new
 keeps_grown old new alike own qs more held holds head ps len h =
-    kept_in old.content new.content alike head own ps qs len (found_whole old.content own qs (store_in old.content old.synced own qs held))
-    (more_in new.content own qs more (found_store new.content own (qs ++ more) (store_in new.content new.synced own (qs ++ more) holds))) h
+    kept_in old.content new.content alike head own ps qs len (found_whole old.content own qs (store_in old.content old.synced old.sound own qs held))
+    (more_in new.content own qs more (found_store new.content own (qs ++ more) (store_in new.content new.synced new.sound own (qs ++ more) holds))) h
 
 front_with : (o : Option (List ℕ)) (synced : ℕ) (own : HeadModel) (qs : List Packet) → IfSome o (HasStoreFront own qs synced) → IfSome o (HasStoreWith own qs)
 front_with None synced own qs h = tt
@@ -71,7 +71,7 @@ front_with (Some x) synced own qs h = (h.added, h.len, h.found)
 -- a store that could not grow
 pub keeps_front : (old new : DeviceModel) → is_some old.content ≡ is_some new.content → (own : HeadModel) (qs : List Packet) → HoldsStore old own qs → HoldsFront new own qs → KeepsStores old new
 keeps_front old new alike own qs held holds head ps len h =
-    kept_in old.content new.content alike head own ps qs len (found_whole old.content own qs (store_in old.content old.synced own qs held))
+    kept_in old.content new.content alike head own ps qs len (found_whole old.content own qs (store_in old.content old.synced old.sound own qs held))
     (front_with new.content new.synced own qs holds) h
 
 -- ---- what coordinators would know by it
@@ -112,8 +112,8 @@ put_in (Some x) (Some y) alike head own ps qs more full len was found same h = a
 pub keeps_put : (old new : DeviceModel) → is_some old.content ≡ is_some new.content → (own : HeadModel) (qs more full : List Packet) → HoldsStore old own qs → HoldsStore new own full
     → AreKnownAlike own.numbers full (qs ++ more) → KeepsKnown old new
 keeps_put old new alike own qs more full held holds same head ps len h =
-    put_in old.content new.content alike head own ps qs more full len (found_whole old.content own qs (store_in old.content old.synced own qs held))
-    (found_store new.content own full (store_in new.content new.synced own full holds)) same h
+    put_in old.content new.content alike head own ps qs more full len (found_whole old.content own qs (store_in old.content old.synced old.sound own qs held))
+    (found_store new.content own full (store_in new.content new.synced new.sound own full holds)) same h
 
 alike_then : (head : HeadModel) (ps : List Packet) (y z : List ℕ) (h : HasStoreAlike head ps y) → HasStoreAlike head h.found z → HasStoreAlike head ps z
 alike_then head ps y z h g = record {

@@ -1,5 +1,5 @@
 -- The responder to the lines of a stream that has a store: what it does at a line and at a commit.
-use Rattle.std.specs.Prelude.{◌≡◌, ◌≤◌, ◌<◌, ◌++◌, ℕ, List, length, All, Option, Some, None, IfSome, string_bytes}
+use Rattle.std.specs.Prelude.{◌≡◌, ◌≤◌, ◌<◌, ◌++◌, ℕ, Bool, true, List, length, All, Option, Some, None, IfSome, string_bytes}
 use Rattle.fm_records.specs.declared.ops.Op.{Op}
 use Rattle.fm_records.specs.Ranges.{CanBe}
 use Rattle.fm_records.specs.Sets.{IsMember}
@@ -14,17 +14,18 @@ use Rattle.fm_durable.specs.declared.durable_service.DurableService.{DurableServ
 use Rattle.fm_store.specs.KnownPackets.{known_packets}
 use Rattle.fm_durable.specs.DurableSteps.{store_head}
 
--- a device: the bytes that it holds, if they are known, and how many of them are on the disk
+-- a device: the bytes that it holds, if they are known, how many of them are on the disk, and whether a sync brings the others there
 pub record DeviceModel : Type 0 where
   pub content : Option (List ℕ)
   pub synced : ℕ
+  pub sound : Bool
 
-abbrev pub model_of : {T : Type 0} → (T → Option (List ℕ)) → (T → ℕ) → T → DeviceModel
-model_of content synced device = record { content = content device; synced = synced device }
+abbrev pub model_of : {T : Type 0} → (T → Option (List ℕ)) → (T → ℕ) → (T → Bool) → T → DeviceModel
+model_of content synced sound device = record { content = content device; synced = synced device; sound = sound device }
 
--- it holds a store of this head with these packets, and all of it is on the disk
+-- it holds a store of this head with these packets, all of it is on the disk, and a sync brings there what is added
 abbrev pub HoldsStore : DeviceModel → HeadModel → List Packet → Type 0
-HoldsStore device head packets = IfSome device.content (λ all. IsStoreOf head packets all × (device.synced ≡ length all))
+HoldsStore device head packets = IfSome device.content (λ all. IsStoreOf head packets all × (device.synced ≡ length all) × (device.sound ≡ true))
 
 -- the bytes begin with a store of this head with these packets, all of which is on the disk; whatever is behind it, these packets are found,
 -- and maybe more

@@ -66,15 +66,15 @@ impl<D: Device> DurableService<D> {
     // Opens the store if the line before listed the coordinators.
     fn open_listed(&mut self, was_open: bool)
         ensures label { self.new.label ≡ self.old.label }
-        ensures keeps { KeepsStores (model_of D.content D.synced self.old.device)
-            (model_of D.content D.synced self.new.device) }
+        ensures keeps { KeepsStores (model_of D.content D.synced D.sound self.old.device)
+            (model_of D.content D.synced D.sound self.new.device) }
         ensures could { self.new.fault ≡ None → self.old.fault ≡ None }
         ensures open { was_open ≡ true → self.new ≡ self.old }
         ensures none { IsIn self.old.service.session None → self.new ≡ self.old }
         ensures listed { was_open ≡ false → self.new.fault ≡ None
             → (k : Following) → IsIn self.old.service.session (Some k)
-            → Reopens (string_bytes self.old.label) (model_of D.content D.synced self.old.device) k
-            self.old.service (model_of D.content D.synced self.new.device) self.new.service }
+            → Reopens (string_bytes self.old.label) (model_of D.content D.synced D.sound self.old.device) k
+            self.old.service (model_of D.content D.synced D.sound self.new.device) self.new.service }
     {
         if was_open || !self.service.is_open() {
             return;
@@ -88,11 +88,11 @@ impl<D: Device> DurableService<D> {
     fn open(&mut self) -> Result<(), StoreFault>
         ensures label { self.new.label ≡ self.old.label }
         ensures fault { self.new.fault ≡ self.old.fault }
-        ensures keeps { KeepsStores (model_of D.content D.synced self.old.device)
-            (model_of D.content D.synced self.new.device) }
+        ensures keeps { KeepsStores (model_of D.content D.synced D.sound self.old.device)
+            (model_of D.content D.synced D.sound self.new.device) }
         ensures ok { (k : Following) → IsIn self.old.service.session (Some k)
-            → OnOk result (Reopens (string_bytes self.old.label) (model_of D.content D.synced self.old.device) k
-            self.old.service (model_of D.content D.synced self.new.device) self.new.service) }
+            → OnOk result (Reopens (string_bytes self.old.label) (model_of D.content D.synced D.sound self.old.device) k
+            self.old.service (model_of D.content D.synced D.sound self.new.device) self.new.service) }
     {
         let head = self.head()?;
         let numbers = self.service.numbers(self.alloc)?;
@@ -122,10 +122,10 @@ impl<D: Device> DurableService<D> {
 
     // Brings what is not in the store yet into it, on the disk too.
     fn store_unstored(&mut self) -> Result<(), StoreFault>
-        ensures ok { OnOk result (CommitsSo (model_of D.content D.synced) self.old self.new) }
+        ensures ok { OnOk result (CommitsSo (model_of D.content D.synced D.sound) self.old self.new) }
         ensures err { (head : HeadModel) (ps : List Packet)
-            → HoldsStore (model_of D.content D.synced self.old.device) head ps
-            → OnErr result (HoldsFront (model_of D.content D.synced self.new.device) head ps) }
+            → HoldsStore (model_of D.content D.synced D.sound self.old.device) head ps
+            → OnErr result (HoldsFront (model_of D.content D.synced D.sound self.new.device) head ps) }
         ensures unlisted { IsIn self.old.service.session None → self.new.device ≡ self.old.device }
         ensures broken { (self.old.fault ≡ None → ⊥) → self.new.device ≡ self.old.device }
     {
@@ -139,28 +139,29 @@ impl<D: Device> DurableService<D> {
         self.add(&packets)
     }
 
-    // Compacts the store, or adds the packets if there is no memory for that.
+    // Compacts the store, or adds the packets if there is no memory for that, or no room on the disk for a second copy. A device that a
+    // failure has touched takes no packets either.
     fn compact(&mut self, packets: &[Packet]) -> Result<(), StoreFault>
-        ensures ok { OnOk result (StoresSo (model_of D.content D.synced) packets.now self.old self.new) }
+        ensures ok { OnOk result (StoresSo (model_of D.content D.synced D.sound) packets.now self.old self.new) }
         ensures err { (head : HeadModel) (ps : List Packet)
-            → HoldsStore (model_of D.content D.synced self.old.device) head ps
-            → OnErr result (HoldsFront (model_of D.content D.synced self.new.device) head ps) }
+            → HoldsStore (model_of D.content D.synced D.sound self.old.device) head ps
+            → OnErr result (HoldsFront (model_of D.content D.synced D.sound self.new.device) head ps) }
     {
         match self.put_full() {
-            Err(StoreFault::OutOfMemory) => {
+            Ok(()) => Ok(()),
+            Err(_) => {
                 self.growth.put_off();
                 self.add(packets)
             }
-            done => done,
         }
     }
 
     // Puts all that is known in the place of what the store has.
     fn put_full(&mut self) -> Result<(), StoreFault>
         ensures ok { (packets : List Packet)
-            → OnOk result (StoresSo (model_of D.content D.synced) packets self.old self.new) }
+            → OnOk result (StoresSo (model_of D.content D.synced D.sound) packets self.old self.new) }
         ensures device { OnErr result
-            (model_of D.content D.synced self.new.device ≡ model_of D.content D.synced self.old.device) }
+            (model_of D.content D.synced D.sound self.new.device ≡ model_of D.content D.synced D.sound self.old.device) }
         ensures rest { OnErr result ((self.new.service ≡ self.old.service) × (self.new.label ≡ self.old.label)
             × (self.new.fault ≡ self.old.fault)) }
     {
@@ -174,11 +175,11 @@ impl<D: Device> DurableService<D> {
 
     // Adds the packets to what the store has.
     fn add(&mut self, packets: &[Packet]) -> Result<(), StoreFault>
-        ensures ok { OnOk result (StoresSo (model_of D.content D.synced) packets.now self.old self.new) }
+        ensures ok { OnOk result (StoresSo (model_of D.content D.synced D.sound) packets.now self.old self.new) }
         ensures none { packets.now ≡ [] → self.new.device ≡ self.old.device }
         ensures err { (head : HeadModel) (ps : List Packet)
-            → HoldsStore (model_of D.content D.synced self.old.device) head ps
-            → OnErr result (HoldsFront (model_of D.content D.synced self.new.device) head ps) }
+            → HoldsStore (model_of D.content D.synced D.sound self.old.device) head ps
+            → OnErr result (HoldsFront (model_of D.content D.synced D.sound self.new.device) head ps) }
     {
         append_all(self.alloc, &mut self.device, packets)?;
         self.service.mark_stored();
@@ -193,11 +194,11 @@ fn append_all<D: Device>(
     device: &mut D,
     packets: &[Packet],
 ) -> Result<(), StoreFault>
-    ensures added { (head : HeadModel) (ps : List Packet) → HoldsStore (model_of D.content D.synced device.old) head ps
-        → OnOk result (HoldsStore (model_of D.content D.synced device.new) head (ps ++ packets.now)) }
+    ensures added { (head : HeadModel) (ps : List Packet) → HoldsStore (model_of D.content D.synced D.sound device.old) head ps
+        → OnOk result (HoldsStore (model_of D.content D.synced D.sound device.new) head (ps ++ packets.now)) }
     ensures none { packets.now ≡ [] → device.new ≡ device.old }
-    ensures err { (head : HeadModel) (ps : List Packet) → HoldsStore (model_of D.content D.synced device.old) head ps
-        → OnErr result (HoldsFront (model_of D.content D.synced device.new) head ps) }
+    ensures err { (head : HeadModel) (ps : List Packet) → HoldsStore (model_of D.content D.synced D.sound device.old) head ps
+        → OnErr result (HoldsFront (model_of D.content D.synced D.sound device.new) head ps) }
 {
     if packets.is_empty() {
         return Ok(());
@@ -213,7 +214,7 @@ impl<D: Device> Responder for DurableService<D> {
     ghost use Rattle.fm_durable.specs.DurableServices.{AnswersDurably, model_of};
 
     ghost answers = { λ old line text new.
-        AnswersDurably (model_of D.content D.synced) old line text new };
+        AnswersDurably (model_of D.content D.synced D.sound) old line text new };
 
     fn answer(&mut self, line: &[u8]) -> Result<Vec<u8>, Refusal> {
         let was_open = self.service.is_open();
@@ -227,9 +228,9 @@ impl<D: Device> Committer for DurableService<D> {
     ghost use Rattle.fm_durable.specs.DurableServices.{model_of};
     ghost use Rattle.fm_durable.specs.inner.CommitSteps.{CommitsSo, FailsSo};
 
-    ghost commits = { λ old new. CommitsSo (model_of D.content D.synced) old new };
+    ghost commits = { λ old new. CommitsSo (model_of D.content D.synced D.sound) old new };
 
-    ghost fails = { λ old new. FailsSo (model_of D.content D.synced) old new };
+    ghost fails = { λ old new. FailsSo (model_of D.content D.synced D.sound) old new };
 
     fn commit(&mut self) -> Result<(), NotCommitted> {
         match self.store_unstored() {

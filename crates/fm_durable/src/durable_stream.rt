@@ -43,8 +43,8 @@ pub fn follow_durable<D: Device, S: LineSource, W: Sink>(
     sink: &mut W,
 ) -> (D, Result<(), DurableFault>)
     ensures { (behind : Packet → List Op) → StandBehind behind
-        → IsFollowedDurably renew_after behind (string_bytes label) result.1 (model_of D.content D.synced device)
-        (model_of D.content D.synced result.0) (record {
+        → IsFollowedDurably renew_after behind (string_bytes label) result.1 (model_of D.content D.synced D.sound device)
+        (model_of D.content D.synced D.sound result.0) (record {
           given = S.remaining source.old;
           left = S.remaining source.new;
           source_failed = S.has_failed source.new;

@@ -18,6 +18,8 @@ store_status store.OutOfMemory = 4
 store_status (store.Device device.OutOfMemory) = 4
 store_status (store.Device device.Failed) = 9
 store_status (store.Device device.Locked) = 9
+store_status (store.Device device.Replaced) = 9
+store_status (store.Device device.Unsupported) = 9
 store_status (store.Damaged place) = 8
 store_status store.OtherCluster = 9
 
@@ -27,6 +29,8 @@ store_cause store.OutOfMemory = codes "\n"
 store_cause (store.Device device.OutOfMemory) = codes "\n"
 store_cause (store.Device device.Failed) = codes ", since the file of the store cannot be used\n"
 store_cause (store.Device device.Locked) = codes ", since another process has the store\n"
+store_cause (store.Device device.Replaced) = codes ", since the file of the store was removed or replaced\n"
+store_cause (store.Device device.Unsupported) = codes ", since the file system cannot lock the file of the store or keep others from reading it\n"
 store_cause (store.Damaged place) = codes " at byte " ++ (decimal place ++ codes "\n")
 store_cause store.OtherCluster = codes ", since the store is another cluster's\n"
 

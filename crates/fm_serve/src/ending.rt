@@ -49,8 +49,13 @@ fn store_status(fault: StoreFault) -> u8
     match fault {
         StoreFault::OutOfMemory | StoreFault::Device(DeviceFault::OutOfMemory) => 4,
         StoreFault::Damaged(_) => 8,
-        StoreFault::Device(DeviceFault::Failed | DeviceFault::Locked) | StoreFault::OtherCluster =>
-            9,
+        StoreFault::Device(
+            DeviceFault::Failed
+            | DeviceFault::Locked
+            | DeviceFault::Replaced
+            | DeviceFault::Unsupported,
+        )
+        | StoreFault::OtherCluster => 9,
     }
 }
 
@@ -82,6 +87,14 @@ impl fmt::Display for Ending {
                     StoreFault::Device(DeviceFault::Locked) => write!(
                         f,
                         "firmament: refusal {number}, since another process has the store\n"
+                    ),
+                    StoreFault::Device(DeviceFault::Replaced) => write!(
+                        f,
+                        "firmament: refusal {number}, since the file of the store was removed or replaced\n"
+                    ),
+                    StoreFault::Device(DeviceFault::Unsupported) => write!(
+                        f,
+                        "firmament: refusal {number}, since the file system cannot lock the file of the store or keep others from reading it\n"
                     ),
                 }
             }

@@ -10,7 +10,7 @@ use crate::telling_device::TellingDevice;
 use fm_durable::durable_stream::{DurableFault, follow_durable};
 use fm_io::sink::Sink;
 use fm_io::source::LineSource;
-use fm_store::device::OpenDevice;
+use fm_store::device::{Device, OpenDevice};
 use fm_store::store_fault::StoreFault;
 use std::alloc::Global;
 use std::io::Eprint;
@@ -51,14 +51,15 @@ pub(crate) fn follow_with_store<T: OpenDevice + Eprint, S: LineSource, W: Sink>(
         Err(fault) => return Ending::Unusable(StoreFault::Device(fault)),
     };
     progress.hide();
-    let (_device, followed) = follow_durable(
+    let (mut device, followed) = follow_durable(
         alloc,
         asked.renew_after as usize,
         label,
-        TellingDevice { rt, device },
+        TellingDevice::new(rt, device),
         source,
         sink,
     );
+    device.close();
     ending_of(followed)
 }
 

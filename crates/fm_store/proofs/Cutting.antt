@@ -4,6 +4,7 @@ use Rattle.std.specs.Option.{option_map}
 use Rattle.std.proofs.lemmas.Bool.{cases_lt}
 use Rattle.std.proofs.lemmas.List.{append-nil, length-take, take-append-le}
 use Rattle.fm_delta.specs.declared.packet.Packet.{Packet}
+use Rattle.fm_store.specs.Devices.{HoldsBytes}
 use Rattle.fm_store.specs.Frames.{frames}
 use Rattle.fm_store.specs.Tails.{AreZeros, IsTorn, IsTail}
 use Rattle.fm_store.specs.Heads.{HeadModel, head_record}
@@ -78,3 +79,19 @@ keeps_cut head other (Some all) new bytes ps whole n is recovery some le cut = �
     let found = subst (λ (l : List ℕ). HasStoreOf head ps whole l) is (store_of_recovery head bytes ps whole recovery some) in
     let same : m ≡ whole = (one_store other head qs ps m whole all has found).2 in
     subst (λ (o : Option (List ℕ)). IfSome o (λ left. HasStoreOf other qs m left)) (sym cut) (has_cut other all qs m n has (omega (arith, same, le)))
+
+-- ---- what is held, by what was read
+
+read_is : (o : Option (List ℕ)) (bytes kept : List ℕ) → IfSome o (λ all. bytes ≡ all) → kept ≡ bytes → HoldsBytes o kept
+read_is None bytes kept is kept_is = tt
+read_is (Some all) bytes kept is kept_is = sym (kept_is ∙ is)
+
+pub holds_same : (old new : Option (List ℕ)) (bytes kept : List ℕ) → new ≡ old → IfSome old (λ all. bytes ≡ all) → kept ≡ bytes → HoldsBytes new kept
+holds_same old new bytes kept same is kept_is = subst (λ (o : Option (List ℕ)). HoldsBytes o kept) (sym same) (read_is old bytes kept is kept_is)
+
+cut_is : (o : Option (List ℕ)) (bytes kept : List ℕ) (whole : ℕ) → IfSome o (λ all. bytes ≡ all) → kept ≡ take whole bytes → HoldsBytes (option_map (take whole) o) kept
+cut_is None bytes kept whole is kept_is = tt
+cut_is (Some all) bytes kept whole is kept_is = sym (kept_is ∙ ap (take whole) is)
+
+pub holds_cut : (old new : Option (List ℕ)) (bytes kept : List ℕ) (whole : ℕ) → new ≡ option_map (take whole) old → IfSome old (λ all. bytes ≡ all) → kept ≡ take whole bytes → HoldsBytes new kept
+holds_cut old new bytes kept whole cut is kept_is = subst (λ (o : Option (List ℕ)). HoldsBytes o kept) (sym cut) (cut_is old bytes kept whole is kept_is)

@@ -113,5 +113,7 @@ fault_number faults.OutOfMemory = 1
 fault_number (faults.Device device.OutOfMemory) = 1
 fault_number (faults.Device device.Failed) = 22
 fault_number (faults.Device device.Locked) = 22
+fault_number (faults.Device device.Replaced) = 22
+fault_number (faults.Device device.Unsupported) = 22
 fault_number (faults.Damaged place) = 21
 fault_number faults.OtherCluster = 22

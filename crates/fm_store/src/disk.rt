@@ -1,45 +1,54 @@
 //! A device that is a file of the operating system.
 //!
-//! No contract can say what a file holds, so `content` is unknown here: this module is trusted to do what `Device` says. It trusts that a
-//! file of the system keeps what was synced, that a file is renamed at once or not at all, and that a lock shuts out other processes that
-//! ask.
+//! No contract can say what a file holds, so `content` is unknown here: this module, `disk_files` and `end_mark` are trusted to do what
+//! `Device` says. They trust that a file of the system keeps what was synced, that a file is renamed at once or not at all, and that a lock
+//! shuts out other processes that ask.
 
-ghost use Rattle.std.specs.Prelude.{None, refl};
+ghost use Rattle.std.specs.Prelude.{None, true, refl};
 
 use crate::device::{Device, DeviceFault, OpenDevice};
+use crate::disk_files::{
+    beside, is_named, locked_file, or_failed, put_copy, resolved, sync_folder, write_over,
+};
+use crate::end_mark::{is_marked, put_mark, take_mark};
 use std::alloc::Global;
-use std::fs::{File, OpenOptions, TryLockError};
+use std::fs::File;
+use std::io;
 use std::io::{Read, Seek, SeekFrom, Write};
-use std::{fs, io};
 
-/// The file at a path. No other process has it open as a `Disk`: a lock on the file `PATH.lock` is held as long as the
-/// value lives. From the first failure on each call fails, since what the file then holds is not known.
+/// The file at a path, locked as long as the value lives: no other process has it open as a `Disk`, whatever name it uses. It is sound if
+/// the last process ended well, which a file `PATH.clean` says, or once this process has written it anew. From the first failure that
+/// touched the file on each call fails, since what it then holds is not known.
 #[derive(Drop)]
 pub struct Disk {
     rt: HostRuntime,
     path: String,
     file: File,
-    lock: File,
     has_failed: bool,
+    // whether a sync brings all that the file holds onto the disk
+    is_sound: bool,
+    // whether nothing was written since the last sync
+    is_synced: bool,
+    // whether a mark may be beside the file
+    may_be_marked: bool,
 }
 
 impl Disk {
-    /// Opens the file at the path, or makes an empty one; of a symbolic link the file that it names, so that `replace` puts no file in the
-    /// link's place. Locked if another process has it. Failed if it cannot be opened, or is no regular file: a device or a pipe may have no
-    /// end.
+    /// Opens the file at the path, or makes an empty one that its owner alone may read; of a symbolic link the file that it names, so that
+    /// `replace` puts no file in the link's place. Locked if another process has it. Unsupported if the file system cannot lock it, or
+    /// cannot keep others from reading it. Failed if it cannot be opened, or is no regular file: a device or a pipe may have no end.
     pub fn open(rt: &HostRuntime, path: &str) -> Result<Disk, DeviceFault> {
         let path = resolved(rt, path)?;
-        if is_other(rt, path.as_str()) {
-            return Err(DeviceFault::Failed);
-        }
-        let lock = locked(rt, path.as_str())?;
-        let file = or_failed(growing(rt, path.as_str()))?;
+        let file = locked_file(rt, path.as_str())?;
+        let is_sound = is_marked(rt, path.as_str(), &file);
         Ok(Disk {
             rt: rt.clone()?,
             path,
             file,
-            lock,
             has_failed: false,
+            is_sound,
+            is_synced: false,
+            may_be_marked: true,
         })
     }
 
@@ -52,92 +61,40 @@ impl Disk {
         }
     }
 
+    // Has to come before anything is changed: checks as `check` does, and takes the mark of a good end away, on the disk too.
+    fn begin_change(&mut self) -> Result<(), DeviceFault> {
+        self.check()?;
+        if self.may_be_marked {
+            let answer = take_mark(&self.rt, self.path.as_str());
+            self.noted(answer)?;
+            self.may_be_marked = false;
+        }
+        self.is_synced = false;
+        Ok(())
+    }
+
     // The answer to a call. Its failure is noted.
     fn noted<T: Drop>(&mut self, answer: io::Result<T>) -> Result<T, DeviceFault> {
         self.has_failed = answer.is_err();
         or_failed(answer)
     }
-}
 
-// The same, or Failed.
-fn or_failed<T: Drop>(answer: io::Result<T>) -> Result<T, DeviceFault> {
-    match answer {
-        Ok(value) => Ok(value),
-        Err(_) => Err(DeviceFault::Failed),
-    }
-}
-
-// The file at the path, to which each write is added at the end.
-fn growing(rt: &HostRuntime, path: &str) -> io::Result<File> {
-    OpenOptions::new()
-        .read(true)
-        .append(true)
-        .create(true)
-        .open(rt, path)
-}
-
-// The path of the file: if that is a symbolic link, the path of what it names, where a file is made if there is none.
-fn resolved(rt: &HostRuntime, path: &str) -> Result<String, DeviceFault> {
-    if !is_link(rt, path) {
-        return Ok(String::from_str(rt.alloc(), path)?);
-    }
-    let named = match fs::canonicalize(rt, path) {
-        Err(error) if error.kind() == io::ErrorKind::NotFound => {
-            or_failed(growing(rt, path))?;
-            fs::canonicalize(rt, path)
+    // Replaced if the path does not name the file any more: what is added to the file then is lost with this process.
+    fn check_name(&mut self) -> Result<(), DeviceFault> {
+        if is_named(&self.rt, self.path.as_str(), &self.file) {
+            Ok(())
+        } else {
+            self.has_failed = true;
+            Err(DeviceFault::Replaced)
         }
-        found => found,
-    };
-    Ok(or_failed(named)?.into_string())
-}
-
-// Whether a symbolic link is at the path.
-fn is_link(rt: &HostRuntime, path: &str) -> bool {
-    match fs::symlink_metadata(rt, path) {
-        Ok(found) => found.is_symlink(),
-        Err(_) => false,
     }
-}
 
-// Whether something is at the path that is no regular file.
-fn is_other(rt: &HostRuntime, path: &str) -> bool {
-    match fs::symlink_metadata(rt, path) {
-        Ok(found) => !found.is_file(),
-        Err(_) => false,
+    // All that the file holds is on the disk now.
+    fn end_change(&mut self) -> Result<(), DeviceFault> {
+        self.check_name()?;
+        self.is_synced = true;
+        Ok(())
     }
-}
-
-// The lock beside the path, unless another process holds it.
-fn locked(rt: &HostRuntime, path: &str) -> Result<File, DeviceFault> {
-    let beside = format!(in rt.alloc(); "{path}.lock")?;
-    let lock = or_failed(growing(rt, beside.as_str()))?;
-    match lock.try_lock() {
-        Ok(()) => Ok(lock),
-        Err(TryLockError::WouldBlock) => Err(DeviceFault::Locked),
-        Err(TryLockError::Error(_)) => Err(DeviceFault::Failed),
-    }
-}
-
-// The folder of the path.
-fn folder_of(path: &str) -> &str {
-    match path.rfind('/') {
-        Some(0) => "/",
-        Some(end) => &path[..end],
-        None => ".",
-    }
-}
-
-// A new file with these bytes and the permissions of the old one, on the disk, in the place of the old one at the path.
-fn put_anew(rt: &HostRuntime, path: &str, old: &File, bytes: &[u8]) -> io::Result<File> {
-    let beside = format!(in rt.alloc(); "{path}.new")?;
-    let mut file = growing(rt, beside.as_str())?;
-    file.set_permissions(old.metadata()?.permissions())?;
-    file.set_len(0)?;
-    file.write_all(bytes)?;
-    file.sync_all()?;
-    fs::rename(rt, beside.as_str(), path)?;
-    File::open(rt, folder_of(path))?.sync_all()?;
-    Ok(file)
 }
 
 // All bytes of the file.
@@ -152,7 +109,13 @@ impl Device for Disk {
 
     ghost synced = { λ _. 0 };
 
+    ghost sound = { λ _. true };
+
     ghost known = { λ _ _. refl };
+
+    fn is_sound(&self) -> bool {
+        self.is_sound
+    }
 
     fn read(&mut self, alloc: Global) -> Result<Vec<u8>, DeviceFault> {
         self.check()?;
@@ -163,28 +126,63 @@ impl Device for Disk {
     }
 
     fn append(&mut self, bytes: &[u8]) -> Result<(), DeviceFault> {
-        self.check()?;
+        self.begin_change()?;
         let answer = self.file.write_all(bytes);
         self.noted(answer)
     }
 
     fn cut(&mut self, len: usize) -> Result<(), DeviceFault> {
-        self.check()?;
+        self.begin_change()?;
         let answer = self.file.set_len(len as u64);
         self.noted(answer)
     }
 
     fn sync(&mut self) -> Result<(), DeviceFault> {
-        self.check()?;
+        self.begin_change()?;
         let answer = self.file.sync_data();
-        self.noted(answer)
+        self.noted(answer)?;
+        self.end_change()
     }
 
-    fn replace(&mut self, bytes: &[u8]) -> Result<(), DeviceFault> {
+    /// By a second copy, as `replace` does it; where there is no room for one, over the bytes where they are.
+    fn renew(&mut self, bytes: &[u8]) -> Result<(), DeviceFault> {
+        if self.replace(bytes).is_ok() {
+            return Ok(());
+        }
         self.check()?;
-        let answer = put_anew(&self.rt, self.path.as_str(), &self.file, bytes);
-        self.file = self.noted(answer)?;
-        Ok(())
+        let written = write_over(&self.rt, self.path.as_str(), &self.file, bytes);
+        self.has_failed = written.is_err();
+        written?;
+        self.is_sound = true;
+        self.end_change()
+    }
+
+    /// A new file is written and synced beside the old one, and renamed. Until then a failure touches nothing, and the old file is
+    /// used on.
+    fn replace(&mut self, bytes: &[u8]) -> Result<(), DeviceFault> {
+        self.begin_change()?;
+        self.check_name()?;
+        let new_path = or_failed(beside(&self.rt, self.path.as_str(), "new"))?;
+        let copy = put_copy(
+            &self.rt,
+            self.path.as_str(),
+            new_path.as_str(),
+            &self.file,
+            bytes,
+        )?;
+        // the lock of the old file is let go only here
+        self.file = copy;
+        let synced = sync_folder(&self.rt, self.path.as_str());
+        self.noted(synced)?;
+        self.is_sound = true;
+        self.end_change()
+    }
+
+    fn close(&mut self) {
+        if !self.has_failed && self.is_sound && self.is_synced {
+            // without a mark the next process writes all anew
+            let _ = put_mark(&self.rt, self.path.as_str(), &self.file);
+        }
     }
 }
 

@@ -7,6 +7,8 @@
 
 pub mod device;
 pub mod disk;
+mod disk_files;
+mod end_mark;
 pub mod frames;
 pub mod head;
 pub mod known;

@@ -1,34 +1,52 @@
 //! A device in memory, for tests and for coordinators that need not outlive their process.
 
-ghost use Rattle.std.specs.Prelude.{◌≡◌, ◌≤◌, Some, length, min, [], OnOk, OnErr, take, refl};
+ghost use Rattle.std.specs.Prelude.{◌≡◌, ◌≤◌, Some, true, false, length, min, [], OnOk, OnErr, take, refl};
 
 use crate::device::{Device, DeviceFault};
 use std::alloc::Global;
 use std::marker::Model;
 
-/// A file in memory, all of which counts as on the disk once it is synced. Contracts see it as its bytes, and how many
-/// of them count so.
+/// A file in memory, all of which counts as on the disk once it is synced. Contracts see it as its bytes, how many of
+/// them count so, and whether a sync brings the others there.
 #[derive(Drop)]
 pub struct Memory {
     bytes: Vec<u8>,
     synced: usize,
+    is_sound: bool,
 }
 
 impl Model for Memory {
-    ghost use Rattle.std.specs.Prelude.{ℕ, List};
+    ghost use Rattle.std.specs.Prelude.{ℕ, List, Bool};
 
-    ghost Value = { List ℕ × ℕ };
+    ghost Value = { List ℕ × ℕ × Bool };
 
-    ghost view = { λ m. (m.bytes.items, m.synced) };
+    ghost view = { λ m. (m.bytes.items, m.synced, m.is_sound) };
 }
 
 impl Memory {
     /// A file that holds these bytes, all on the disk.
     pub fn new(bytes: Vec<u8>) -> Memory
-        ensures { result ≡ (bytes.items, length bytes.items) }
+        ensures { result ≡ (bytes.items, length bytes.items, true) }
     {
         let synced = bytes.len();
-        Memory { bytes, synced }
+        Memory {
+            bytes,
+            synced,
+            is_sound: true,
+        }
+    }
+
+    /// A file as a process finds it after a sync of another one failed: all these bytes are read, and a crash leaves so many.
+    /// A sync succeeds and brings no more of them onto the disk.
+    pub fn after_failed_sync(bytes: Vec<u8>, synced: usize) -> Memory
+        ensures { result ≡ (bytes.items, min synced (length bytes.items), false) }
+    {
+        let synced = synced.min(bytes.len());
+        Memory {
+            bytes,
+            synced,
+            is_sound: false,
+        }
     }
 
     /// The bytes that it holds.
@@ -51,7 +69,13 @@ impl Device for Memory {
 
     ghost synced = { λ m. m.1 };
 
+    ghost sound = { λ m. m.2 };
+
     ghost known = { λ _ _. refl };
+
+    fn is_sound(&self) -> bool {
+        self.is_sound
+    }
 
     fn read(&mut self, alloc: Global) -> Result<Vec<u8>, DeviceFault> {
         Ok(self.bytes.to_vec(alloc)?)
@@ -69,14 +93,23 @@ impl Device for Memory {
     }
 
     fn sync(&mut self) -> Result<(), DeviceFault> {
-        self.synced = self.bytes.len();
+        if self.is_sound {
+            self.synced = self.bytes.len();
+        }
         Ok(())
+    }
+
+    fn renew(&mut self, bytes: &[u8]) -> Result<(), DeviceFault> {
+        self.replace(bytes)
     }
 
     fn replace(&mut self, bytes: &[u8]) -> Result<(), DeviceFault> {
         let anew = bytes.to_vec(*self.bytes.allocator())?;
         self.synced = anew.len();
         self.bytes = anew;
+        self.is_sound = true;
         Ok(())
     }
+
+    fn close(&mut self) {}
 }

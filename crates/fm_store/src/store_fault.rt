@@ -30,7 +30,12 @@ impl StoreFault {
         match self {
             StoreFault::OutOfMemory | StoreFault::Device(DeviceFault::OutOfMemory) => 1,
             StoreFault::Damaged(_) => 21,
-            StoreFault::Device(DeviceFault::Failed | DeviceFault::Locked)
+            StoreFault::Device(
+                DeviceFault::Failed
+                | DeviceFault::Locked
+                | DeviceFault::Replaced
+                | DeviceFault::Unsupported,
+            )
             | StoreFault::OtherCluster => 22,
         }
     }

@@ -17,8 +17,9 @@ use fm_store::recovery::{knowledge_of, recover};
 use fm_store::store::{append_packet, open_store, read_store, rewrite_store};
 use fm_store::store_fault::StoreFault;
 use std::alloc::Global;
-use std::fs;
 use std::test::Fail;
+use std::time::Duration;
+use std::{fs, thread};
 
 // The file of a store of coordinators 1 and 2 with the label "west" and two packets, as tests/stored.py writes it. Its
 // head ends at 64, and the packets at 192 and 286.
@@ -125,6 +126,33 @@ fn two_packets_are_written_as_documented(rt: HostRuntime) -> Result<(), Fail> {
     assert_eq!(rt; device.synced(), 64);
     device.sync()?;
     assert_eq!(rt; device.synced(), 286);
+    Ok(())
+}
+
+#[test]
+fn what_a_failed_sync_left_is_written_anew(rt: HostRuntime) -> Result<(), Fail> {
+    let alloc = rt.alloc();
+    // two packets read back, and a crash leaves the head alone
+    let mut device = Memory::after_failed_sync(Vec::from_slice(alloc, &STORE)?, 64);
+    assert!(rt; !device.is_sound());
+    device.sync()?;
+    assert_eq!(rt; device.synced(), 64);
+    assert_eq!(rt; opened(alloc, &mut device, &west(alloc)?), Ok(2));
+    assert!(rt; device.bytes() == STORE.as_slice());
+    assert_eq!(rt; device.synced(), 286);
+    append_packet(alloc, &mut device, &sample(alloc, 4)?)?;
+    device.sync()?;
+    assert_eq!(rt; device.synced(), device.bytes().len());
+    Ok(())
+}
+
+#[test]
+fn a_torn_end_after_a_failed_sync_is_cut_off(rt: HostRuntime) -> Result<(), Fail> {
+    let alloc = rt.alloc();
+    let mut device = Memory::after_failed_sync(Vec::from_slice(alloc, &STORE[..285])?, 0);
+    assert_eq!(rt; opened(alloc, &mut device, &west(alloc)?), Ok(1));
+    assert!(rt; device.bytes() == &STORE[..192]);
+    assert_eq!(rt; device.synced(), 192);
     Ok(())
 }
 
@@ -305,9 +333,9 @@ fn a_packet_is_halved_until_it_fits(rt: HostRuntime) -> Result<(), Fail> {
 }
 
 // The files that a disk at the path leaves are removed, if they are there.
-fn removed(rt: &HostRuntime, path: &str, lock: &str) {
+fn removed(rt: &HostRuntime, path: &str, mark: &str) {
     let _ = fs::remove_file(rt, path);
-    let _ = fs::remove_file(rt, lock);
+    let _ = fs::remove_file(rt, mark);
 }
 
 // The packets of the store in the file at the path, after one more was added.
@@ -317,6 +345,7 @@ fn grown(rt: &HostRuntime, path: &str, number: u64) -> Result<usize, Fail> {
     let packets = open_store(alloc, &mut disk, &west(alloc)?)?;
     append_packet(alloc, &mut disk, &sample(alloc, number)?)?;
     disk.sync()?;
+    disk.close();
     Ok(packets.len())
 }
 
@@ -324,16 +353,51 @@ fn grown(rt: &HostRuntime, path: &str, number: u64) -> Result<usize, Fail> {
 fn a_file_keeps_what_was_added(rt: HostRuntime) -> Result<(), Fail> {
     let alloc = rt.alloc();
     let path = "tested.store";
-    removed(&rt, path, "tested.store.lock");
+    removed(&rt, path, "tested.store.clean");
     assert_eq!(rt; grown(&rt, path, 3)?, 0);
     assert_eq!(rt; grown(&rt, path, 4)?, 1);
     let mut disk = Disk::open(&rt, path)?;
+    assert!(rt; disk.is_sound());
     assert!(rt; Disk::open(&rt, path).is_err());
     assert!(rt; disk.read(alloc)?.as_slice() == STORE.as_slice());
     disk.cut(200)?;
     assert_eq!(rt; open_store(alloc, &mut disk, &west(alloc)?)?.len(), 1);
     append_packet(alloc, &mut disk, &sample(alloc, 4)?)?;
     assert!(rt; disk.read(alloc)?.as_slice() == STORE.as_slice());
-    removed(&rt, path, "tested.store.lock");
+    removed(&rt, path, "tested.store.clean");
+    Ok(())
+}
+
+// Whether the file is known to be on the disk as a whole, if the mark of a good end has these bytes.
+fn is_sound_by(rt: &HostRuntime, path: &str, mark: &[u8]) -> Result<bool, Fail> {
+    fs::write(rt, "marked.store.clean", mark)?;
+    Ok(Disk::open(rt, path)?.is_sound())
+}
+
+#[test]
+fn a_mark_counts_that_is_of_the_file_as_it_is(rt: HostRuntime) -> Result<(), Fail> {
+    let alloc = rt.alloc();
+    let path = "marked.store";
+    removed(&rt, path, "marked.store.clean");
+    assert!(rt; !Disk::open(&rt, path)?.is_sound());
+    assert_eq!(rt; grown(&rt, path, 3)?, 0);
+    let mark = fs::read(&rt, "marked.store.clean")?;
+    assert!(rt; is_sound_by(&rt, path, &mark)?);
+    for len in 0..mark.len() {
+        assert!(rt; !is_sound_by(&rt, path, &mark[..len])?);
+    }
+    for place in 0..mark.len() {
+        let mut forged = Vec::from_slice(alloc, &mark)?;
+        if let Some(byte) = forged.get_mut(place) {
+            *byte ^= 1;
+        }
+        assert!(rt; !is_sound_by(&rt, path, &forged)?);
+    }
+    // a change in the same tick of the system's clock would not be seen
+    thread::sleep(&rt, Duration::from_millis(50));
+    let bytes = fs::read(&rt, path)?;
+    fs::write(&rt, path, &bytes)?;
+    assert!(rt; !is_sound_by(&rt, path, &mark)?);
+    removed(&rt, path, "marked.store.clean");
     Ok(())
 }

@@ -6,7 +6,7 @@ use Rattle.fm_durable.proofs.durable_stream.follow_durable.Goals as goal
 
 pub returns : goal.returns
 returns g c = λ behind stand.
-    let model = model_of g.D.Device.content g.D.Device.synced in
+    let model = model_of g.D.Device.content g.D.Device.synced g.D.Device.sound in
     let most = c.args.renew_after in
     let label = string_bytes c.args.label in
     let first = model c.args.device in

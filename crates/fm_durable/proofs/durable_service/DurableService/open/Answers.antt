@@ -9,7 +9,7 @@ use Rattle.fm_service.specs.Sessions.{IsIn}
 use Rattle.fm_service.specs.Storing.{numbers_listed, Restores}
 use Rattle.fm_durable.specs.DurableSteps.{store_head}
 use Rattle.fm_durable.specs.DurableServices.{model_of}
-use Rattle.fm_durable.proofs.Appending.{both_in}
+use Rattle.fm_durable.proofs.Appending.{held_in}
 use Rattle.fm_durable.proofs.Surviving.{keeps_none, keeps_failed, keeps_opened}
 use Rattle.fm_durable.proofs.durable_service.DurableService.open.Goals as goal
 
@@ -30,7 +30,7 @@ returns-in-Ok-clause-ok g c = λ k is.
     record {
       packets = packets;
       found = opened.found;
-      holds = both_in new synced head packets opened.left opened.on_disk;
+      holds = held_in new synced (g.D.Device.sound c.read_store.new.device) head packets opened.left opened.on_disk c.in_ok-read_store.ensures.sound;
       can_be = taken.1;
       most = c.begin_with.ensures.most;
       restores = λ behind stand.
@@ -38,36 +38,36 @@ returns-in-Ok-clause-ok g c = λ k is.
     }
 
 pub returns-in_err-head-clause-keeps : goal.returns-in_err-head-clause-keeps
-returns-in_err-head-clause-keeps g c = keeps_none (model_of g.D.Device.content g.D.Device.synced c.args.self.now.device)
+returns-in_err-head-clause-keeps g c = keeps_none (model_of g.D.Device.content g.D.Device.synced g.D.Device.sound c.args.self.now.device)
 
 pub returns-in_err-numbers-clause-keeps : goal.returns-in_err-numbers-clause-keeps
-returns-in_err-numbers-clause-keeps g c = keeps_none (model_of g.D.Device.content g.D.Device.synced c.args.self.now.device)
+returns-in_err-numbers-clause-keeps g c = keeps_none (model_of g.D.Device.content g.D.Device.synced g.D.Device.sound c.args.self.now.device)
 
 pub returns-in_err-found-clause-keeps : goal.returns-in_err-found-clause-keeps
-returns-in_err-found-clause-keeps g c = keeps_none (model_of g.D.Device.content g.D.Device.synced c.args.self.now.device)
+returns-in_err-found-clause-keeps g c = keeps_none (model_of g.D.Device.content g.D.Device.synced g.D.Device.sound c.args.self.now.device)
 
 pub returns-in_err-read_store-clause-keeps : goal.returns-in_err-read_store-clause-keeps
 returns-in_err-read_store-clause-keeps g c =
-    let model = model_of g.D.Device.content g.D.Device.synced in
+    let model = model_of g.D.Device.content g.D.Device.synced g.D.Device.sound in
     keeps_failed (model c.args.self.now.device) (model c.read_store.new.device) (g.met.D.Device.known c.args.self.now.device c.read_store.new.device) c.in_err-read_store.ensures.err
 
 pub returns-in_err-known-clause-keeps : goal.returns-in_err-known-clause-keeps
 returns-in_err-known-clause-keeps g c =
-    let model = model_of g.D.Device.content g.D.Device.synced in
+    let model = model_of g.D.Device.content g.D.Device.synced g.D.Device.sound in
     let read = c.in_ok-read_store.ensures.ok in
     keeps_opened (model c.args.self.now.device) (model c.read_store.new.device) (g.met.D.Device.known c.args.self.now.device c.read_store.new.device)
     c.in_ok-head.head read.0 read.2.found read.2.left
 
 pub returns-in-Ok-clause-keeps : goal.returns-in-Ok-clause-keeps
 returns-in-Ok-clause-keeps g c =
-    let model = model_of g.D.Device.content g.D.Device.synced in
+    let model = model_of g.D.Device.content g.D.Device.synced g.D.Device.sound in
     let read = c.in_ok-read_store.ensures.ok in
     keeps_opened (model c.args.self.now.device) (model c.read_store.new.device) (g.met.D.Device.known c.args.self.now.device c.read_store.new.device)
     c.in_ok-head.head read.0 read.2.found read.2.left
 
 pub returns-clause-keeps : goal.returns-clause-keeps
 returns-clause-keeps g c =
-    let model = model_of g.D.Device.content g.D.Device.synced in
+    let model = model_of g.D.Device.content g.D.Device.synced g.D.Device.sound in
     let read = c.in_ok-read_store.ensures.ok in
     keeps_opened (model c.args.self.now.device) (model c.read_store.new.device) (g.met.D.Device.known c.args.self.now.device c.read_store.new.device)
     c.in_ok-head.head read.0 read.2.found read.2.left

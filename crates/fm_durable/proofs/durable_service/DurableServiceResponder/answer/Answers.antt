@@ -6,7 +6,7 @@ use Rattle.fm_durable.proofs.durable_service.DurableServiceResponder.answer.Goal
 
 pub returns-in_err-text : goal.returns-in_err-text
 returns-in_err-text g c =
-    let model = model_of g.D.Device.content g.D.Device.synced in
+    let model = model_of g.D.Device.content g.D.Device.synced g.D.Device.sound in
     let e = c.in_err-text.field-0.0 in
     let p = err_from_is_err_and c.from_residual.result c.from_residual.ensures.1 in
     rw (p.1, p.2)
