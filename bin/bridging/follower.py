@@ -113,8 +113,9 @@ class Follower:
         try:
             # in a session of its own, so that an interrupt typed at a terminal ends the bridge and not the follower
             # under it; and the file of a store is for the owner alone
+            # Python ignores SIGXFSZ, and so does the follower then: a store that may grow no further is a failed write, which it tells
             self._run = subprocess.Popen(command, stdin=pipe, stdout=pipe, stderr=pipe if store is not None else None, bufsize=0,
-                                         start_new_session=True, umask=PRIVATE if store is not None else -1)
+                                         start_new_session=True, umask=PRIVATE if store is not None else -1, restore_signals=False)
         except OSError as why:
             raise Failure(NO_PROGRAM, f"no program at {program}, which bin/build makes ({why.strerror})") from None
         assert self._run.stdin is not None and self._run.stdout is not None

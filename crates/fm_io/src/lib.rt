@@ -14,3 +14,4 @@ pub mod responder;
 pub mod sending;
 pub mod sink;
 pub mod source;
+pub mod waiting;
