@@ -30,6 +30,9 @@ KILLS = 60
 NO_SPACE, BROKEN = 28, 5
 # what an operator sees if the store cannot be used
 UNUSABLE = b"firmament: refusal 22"
+NOT_COMPACTED = b"firmament: the store was not compacted, since no second copy can be written; the next try is at twice its size\n"
+# the calls by which a mark is taken away, a copy takes the place of a file, and a mark is left
+TAKES_MARK, COPIES, LEAVES_MARK = "s", "wsrs", "swss"
 # a store with fewer bytes is not compacted
 LEAST = 1 << 20
 
@@ -241,7 +244,7 @@ def in_order(program):
             _, calls = storing.run(place / ("store %d" % len(lines)), OPEN + job() + lines)
             yield "synced before it is answered: %s" % calls[:60], waits_for_syncs(calls)
         _, calls = storing.run(place / ("store %d" % len(GRAPH)), OPEN + GRAPH * 9)
-        yield "questions write nothing: %s" % calls, "w" not in calls
+        yield "questions write nothing: %s" % calls, "w" not in calls[:calls.rindex("o")]
 
 
 # what strace says of a call to a file that came back well, and the letter that tests/storing.c has for it
@@ -365,7 +368,8 @@ def compacted_after_renewals(program):
 
 
 def compaction_fails(program):
-    """Each call of a compaction fails in turn, or the process is killed there: what was answered `ok` is known."""
+    """Each call of a compaction fails in turn, with those behind it, or the process is killed there: what was answered `ok` is known. If a call
+    on the new file alone fails, the old one is used on."""
     text = [OPEN, *(spec(n) for n in range(100, 104))]
     with folder() as place:
         storing, path = Storing(program, place), place / "store"
@@ -375,18 +379,32 @@ def compaction_fails(program):
         _, calls = storing.run(path, b"".join(text))
         count = sum(call in "wstr" for call in calls)
         yield "a compaction is seen: %s" % calls, "r" in calls
-        ways = [{"ERROR": BROKEN}, {"ERROR": NO_SPACE, "SHORT": 1}, {"KILLS": 1}, {"KILLS": 2}]
+        yield "it is as it is documented: %s" % calls, calls == TAKES_MARK + COPIES + COPIES + "o" + LEAVES_MARK
+        ways = [{"ERROR": BROKEN}, {"ERROR": NO_SPACE, "SHORT": 1}, {"KILLS": 1}, {"KILLS": 2}, {"ERROR": NO_SPACE, "MANY": 1}]
         for way, at in ((way, at) for way in ways for at in range(1, count + 1)):
             path.write_bytes(data)
             (status, out, err), _ = storing.run(path, b"".join(text), AT=at, **way)
             name = "%s at call %d" % (way, at)
-            fine = status == -signal.SIGKILL if "KILLS" in way else status == 9 and err.startswith(UNUSABLE)
+            fine = status == -signal.SIGKILL if "KILLS" in way else (status, err) == compaction_ends(at, "MANY" in way)
             oks = sum(answer == b"ok\n" for answer in answers_in(out))
             found = known(program, path)
             yield name + ": ended as it should", fine
             yield name + ": nothing lost", found[:100 + max(0, oks - 1)] == numbers(100 + max(0, oks - 1))
             yield name + ": nothing from nowhere", found == numbers(len(found))
             yield name + ": a store by its page", is_whole(path)
+
+
+def compaction_ends(at, is_alone):
+    """How a run ends that writes its file anew and compacts it, if the call of that number fails, alone or with those behind it."""
+    begun = len(TAKES_MARK)
+    anew, compaction = range(begun + 1, begun + 4), range(begun + 5, begun + 8)
+    if at > begun + 8 or is_alone and at in anew:
+        return 0, b""
+    if is_alone and at in compaction:
+        return 0, NOT_COMPACTED
+    # a folder that is not synced behind the rename is no compaction either
+    told = NOT_COMPACTED if at in (*compaction, begun + 8) else b""
+    return 9, told + UNUSABLE + b", since the file of the store cannot be used\n"
 
 
 def full(program):
@@ -492,7 +510,7 @@ def linked(program):
         seen = follow(program, link, OPEN + specs(3, 2))
         yield "it is compacted", seen[0] == 0 and file.stat().st_size < size and known(program, file) == known(program, link) == numbers(5)
         yield "both links stay", link.is_symlink() and (place / "next").is_symlink() and not file.is_symlink()
-        yield "all else is beside the file", {it.name for it in place.iterdir()} == {"far", "next", "link"} and (file.parent / "store.lock").exists()
+        yield "all else is beside the file", {it.name for it in place.iterdir()} == {"far", "next", "link"} and (file.parent / "store.clean").exists()
         with subprocess.Popen([program, "follow", "--store", str(file)], stdin=subprocess.PIPE, stdout=subprocess.PIPE) as first:
             first.stdin.write(OPEN)
             first.stdin.flush()

@@ -409,8 +409,12 @@ def files(program):
         path, before = folder / "store", os.umask(0)
         try:
             bridge = Bridge(broker.port, 1, *QUICK, "--store", str(path), program=program)
+            (folder / "alone").mkdir(0o700)
+            subprocess.run([program, "follow", "--store", folder / "alone/store"], input=b'{"coordinators":[1]}\n', stdout=subprocess.DEVNULL, check=True)
         finally:
             os.umask(before)
+        yield from private(folder / "alone")
+        shutil.rmtree(folder / "alone")
         with bridge:
             yield "told", told_to([bridge], cluster(3))
             yield from private(folder)

@@ -192,6 +192,13 @@ def knowledge(store):
             for number in store.coordinators if number in senders}
 
 
+def ended_well(path):
+    """Whether the mark beside the file says that the last process ended well, and left it as it is now."""
+    mark, found = pathlib.Path(f"{path}.clean"), pathlib.Path(path).stat()
+    words = found.st_ino, found.st_size, *divmod(found.st_ctime_ns, 10 ** 9)
+    return mark.is_file() and mark.read_bytes() == b"clean %d %d %d %d\n" % words
+
+
 def record_lines(store):
     """The lines of `firmament records`."""
     if store.label is not None:

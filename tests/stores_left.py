@@ -71,14 +71,15 @@ def is_opened(program, store, path):
     done = subprocess.run(words, input=b"".join(json.dumps(line).encode() + b"\n" for line in lines), capture_output=True, timeout=120)
     if store.tail == "damaged":
         seen = done.returncode, done.stdout, done.stderr
-        return seen == (8, b"", b"firmament: refusal 21 at byte %d\n" % store.place) and path.read_bytes() == before
+        is_left = path.read_bytes() == before and not store_reader.ended_well(path)
+        return is_left and seen == (8, b"", b"firmament: refusal 21 at byte %d\n" % store.place)
     said = b"firmament: the store was torn at byte %d, and is cut off there\n" % store.place if store.tail == "torn" else b""
     known, nothing = store_reader.knowledge(store), store_reader.joined([])
     answers = done.stdout.splitlines()
     digits, ends = answers[1::2], [*answers[:1], *answers[2::2]]
     found = [store_reader.decoded(bytes.fromhex(each.decode()))[2] for each in digits]
-    return (done.returncode, done.stderr) == (0, said) and set(ends) == {b"ok"} and found == [
-        known.get(number, nothing) for number in store.coordinators]
+    fine = (done.returncode, done.stderr) == (0, said) and set(ends) == {b"ok"} and store_reader.ended_well(path)
+    return fine and found == [known.get(number, nothing) for number in store.coordinators]
 
 
 def is_as_read(data, command, seen):

@@ -1,9 +1,9 @@
-/* Intercepts what a process does to its files (LD_PRELOAD): `write`, `fdatasync`, `fsync`, `ftruncate` and `rename`.
+/* Intercepts what a process does to its files (LD_PRELOAD): `write`, `pwrite`, `fdatasync`, `fsync`, `ftruncate` and `rename`.
  *
  * These calls are counted from 1, but for writes to the standard streams. If the environment has AT, the call of that number fails: with the
  * error ERROR; or if it has KILLS, the process is killed there, before the call or, if KILLS is 2, after it. If it has SHORT, a write that
- * would fail accepts half of its bytes first. From the call AT on, all of them fail, as on a full disk. Each call is told to the file TOLD, by a
- * letter: w, s for both syncs, t, r, and o for a write to the standard output.
+ * would fail accepts half of its bytes first. From the call AT on, all of them fail, as on a full disk, or if it has MANY, so many. Each call is told
+ * to the file TOLD, by a letter: w for both writes, s for both syncs, t, r, and o for a write to the standard output.
  *
  * No headers, so that any C compiler can make it: cc -shared -fPIC -nostdlib. */
 typedef unsigned long size;
@@ -14,7 +14,7 @@ extern int *__errno_location(void);
 extern long syscall(long, ...);
 extern int open(const char *, int, ...);
 
-enum { FSYNC = 74, FDATASYNC = 75, FTRUNCATE = 77, RENAME = 82, GETPID = 39, KILL = 62, WRITE_ONLY = 1, CREATE = 64, APPEND = 1024 };
+enum { FSYNC = 74, FDATASYNC = 75, FTRUNCATE = 77, RENAME = 82, PWRITE = 18, GETPID = 39, KILL = 62, WRITE_ONLY = 1, CREATE = 64, APPEND = 1024 };
 
 static size calls;
 static int told = -1;
@@ -47,7 +47,7 @@ static int fails(const char *letter) {
     tell(letter);
     ++calls;
     if (calls == at && number("KILLS") == 1) die();
-    return at && calls >= at && !number("KILLS");
+    return at && calls >= at && (!number("MANY") || calls < at + number("MANY")) && !number("KILLS");
 }
 
 /* What a call came to. The process is killed here if that is asked for. */
@@ -63,6 +63,10 @@ long write(int file, const void *bytes, size most) {
     if (calls == number("AT") && number("SHORT") && most > 1) return __write(file, bytes, most / 2);
     return fault();
 }
+
+long pwrite(int file, const void *bytes, size most, long at) { return fails("w") ? fault() : done(syscall(PWRITE, file, bytes, most, at)); }
+
+long pwrite64(int file, const void *bytes, size most, long at) { return pwrite(file, bytes, most, at); }
 
 int fdatasync(int file) { return (int)(fails("s") ? fault() : done(syscall(FDATASYNC, file))); }
 
