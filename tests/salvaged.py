@@ -237,7 +237,8 @@ def unusable(program, folder):
                            ("no name", ""), ("a file for a folder", hidden / "store")):
             done = subprocess.run([program, command, path], capture_output=True, timeout=120, preexec_fn=as_nobody)
             yield "%s of %s" % (command, name), (done.returncode, done.stdout, done.stderr) == (9, b"", UNUSABLE)
-        done = subprocess.run([program, command, "/dev/null"], capture_output=True, timeout=120)
+        (folder / "empty").touch()
+        done = subprocess.run([program, command, folder / "empty"], capture_output=True, timeout=120)
         yield command + " of nothing", (done.returncode, done.stdout, done.stderr) == wanted(command, b"")
     hidden.chmod(0o600)
 
