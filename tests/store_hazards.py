@@ -110,10 +110,13 @@ def sync_fails_on(program, host, image, inner):
     with running(program, path) as first:
         oks = told(first, specs(40, 40)).count(b"ok\n")
         fill(host / "ballast")
-        last = told(first, specs(80, 4000))
+        # many lines in one commit, so that several pages of the file are lost, and not one alone that the next line dirties again
+        first.stdin.write(specs(80, 400))
+        first.stdin.flush()
+        answers = first.stdout.read().count(b"ok\n")
         status, said = ended(first)
-        yield "the sync fails", status == 9 and said.startswith(UNUSABLE) and last.count(b"ok\n") < 4000
-        sure = 80 + last.count(b"ok\n")
+        yield "the sync fails", status == 9 and said.startswith(UNUSABLE) and answers < 400
+        sure = 80 + answers
     yield "all before it was answered", oks == 40
     (host / "ballast").unlink()
     with running(program, path) as second:
@@ -126,7 +129,8 @@ def sync_fails_on(program, host, image, inner):
         second.kill()
     yield "it knows what was answered", set(numbers(sure)) <= set(found)
     lost_cache(image, inner, host.parent / "copy")
-    yield "what it knew and said is on the disk", set(found) <= set(known(program, path))
+    after = follow(program, path, OPEN + LIST)
+    yield "what it knew and said is on the disk", after[0] == 0 and after[1].count(b"task ") >= len(found) and set(found) <= set(known(program, path))
 
 
 def known_now(ran):
